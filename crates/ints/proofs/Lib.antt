@@ -1,0 +1,4 @@
+pub mod Products
+pub mod Sums
+pub mod Zeros
+pub mod Belows

@@ -1,0 +1,3 @@
+pub mod Limiting
+pub mod Making
+pub mod Shapes
