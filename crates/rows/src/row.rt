@@ -1,6 +1,7 @@
 ghost use mathlib.Core.Bool.{true};
 ghost use mathlib.Core.Path.{_≡_};
 ghost use Rattle.rows.specs.Limits.{fits};
+
 mod methods;
 
 // The quantities are q0 to q15.
