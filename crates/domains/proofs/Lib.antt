@@ -1,0 +1,3 @@
+pub mod Farkas
+pub mod Weighing
+pub mod Outcomes

@@ -1,6 +1,7 @@
 // Index domains: what decides that a goal follows from facts, by a certificate that nobody has to believe.
 pub mod domain;
 pub mod fault;
+pub mod linear;
 
 pub use domain::Domain;
 pub use domain::verified;
@@ -8,3 +9,5 @@ pub use fault::Fault;
 pub use fault::OutcomeRaise;
 pub use fault::Raise;
 pub use fault::Reason;
+pub use linear::Linear;
+pub use linear::LinearDomain;

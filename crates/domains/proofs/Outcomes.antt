@@ -1,0 +1,9 @@
+-- What a good outcome says of the tests before it.
+use mathlib.Core.Bool.{Bool, true, false, cond}
+use mathlib.Core.Path.{_≡_, refl}
+use Rattle.domains.specs.declared.fault.Reason.{Reason}
+use Rattle.domains.specs.Faults.{Outcome, Good, fault}
+
+pub good-parts : (b : Bool) (x : Outcome) (r : Reason) → Good (cond b x (fault r)) → (b ≡ true) × Good x
+good-parts true x r g = (refl, g)
+good-parts false x r g = absurd g
