@@ -1,3 +1,5 @@
 pub mod Farkas
 pub mod Weighing
 pub mod Outcomes
+pub mod Trying
+pub mod Deciding

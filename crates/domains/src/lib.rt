@@ -2,6 +2,7 @@
 pub mod domain;
 pub mod fault;
 pub mod linear;
+pub mod modes;
 
 pub use domain::Domain;
 pub use domain::verified;
@@ -11,3 +12,5 @@ pub use fault::Raise;
 pub use fault::Reason;
 pub use linear::Linear;
 pub use linear::LinearDomain;
+pub use modes::Modes;
+pub use modes::ModesDomain;

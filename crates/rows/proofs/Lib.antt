@@ -1,3 +1,5 @@
 pub mod Limiting
 pub mod Making
 pub mod Shapes
+pub mod Tested
+pub mod Items
