@@ -2,8 +2,14 @@
 use mathlib.Core.Bool.{Bool, true, false, cond}
 use mathlib.Core.Path.{_≡_, refl}
 use Rattle.domains.specs.declared.fault.Reason.{Reason}
-use Rattle.domains.specs.Faults.{Outcome, Good, fault}
+use Rattle.std.specs.declared.result.Result.the-variants.{Ok, Err}
+use Rattle.domains.specs.Faults.{Outcome, Good, fault, raised}
 
 pub good-parts : (b : Bool) (x : Outcome) (r : Reason) → Good (cond b x (fault r)) → (b ≡ true) × Good x
 good-parts true x r g = (refl, g)
 good-parts false x r g = absurd g
+
+-- a layer's good outcome is good below
+pub good-below : (o : Outcome) → Good (raised o) → Good o
+good-below (Ok u) g = tt
+good-below (Err f) g = absurd g

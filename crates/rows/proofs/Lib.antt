@@ -3,3 +3,4 @@ pub mod Making
 pub mod Shapes
 pub mod Tested
 pub mod Items
+pub mod Same
