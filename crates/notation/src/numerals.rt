@@ -1,0 +1,20 @@
+ghost use mathlib.Core.Path.{_≡_};
+ghost use Rattle.std.specs.Vec.{made};
+ghost use Rattle.std.specs.Written.{decimal};
+use crate::misread::Misread;
+use crate::misread::MisreadFromAllocError;
+use std::alloc::Global;
+
+// The number that a word writes.
+pub fn read_u32(heap: Global, word: &str) -> Result<u32, Misread>
+    ensures { λ r. ⌜ made r (λ n. now (word .entry) ≡ decimal n) ⌝ }
+{
+    let Ok(n) = word.parse::<u32>() else {
+        return Err(Misread::Number);
+    };
+    let written = format!(heap, "{n}")?;
+    if written.as_str() != word {
+        return Err(Misread::Number);
+    }
+    Ok(n)
+}
