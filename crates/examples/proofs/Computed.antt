@@ -1,0 +1,21 @@
+-- The table, by computing.
+use mathlib.Core.Path.{refl}
+use Rattle.ints.specs.Sums.{sumTo}
+use Rattle.ints.specs.Tests.{allBelow, anyBelow, countBelow}
+use Rattle.rows.specs.Testing.{meetsAll}
+use Rattle.domains.specs.Linear.{weigh, numbers, kinds}
+use Rattle.domains.specs.Modes.{occursIn, broken}
+use Rattle.examples.specs.Table.{Table}
+
+pub table : Table
+unfolding sumTo allBelow anyBelow countBelow meetsAll weigh numbers kinds occursIn broken
+table = record {
+  linear-same = refl;
+  linear-uneven = refl;
+  linear-short = refl;
+  linear-most = refl;
+  linear-over = refl;
+  modes-half = refl;
+  modes-top = refl;
+  modes-case = refl;
+}

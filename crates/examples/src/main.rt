@@ -1,0 +1,62 @@
+// Every worked example, run and compared with what it must give.
+ghost use Rattle.examples.specs.Table.{Table};
+
+mod verifying;
+
+use std::error::AnyError;
+use verifying::EXAMPLES;
+use verifying::Example;
+use verifying::outcome_of;
+use verifying::outcome_word;
+
+// The examples hold of the definitions, by computing.
+fn table_stands()
+    ensures { λ _. ⌜ Table ⌝ }
+{}
+
+fn is_same(a: &str, b: &str) -> bool {
+    a == b
+}
+
+fn mark(same: bool) -> &'static str {
+    if same { "as it must" } else { "WRONG" }
+}
+
+fn show(rt: &LibcRuntime, example: Example) -> Result<bool, AnyError> {
+    let outcome = outcome_of(rt.alloc(), example)?;
+    let got = outcome_word(outcome);
+    let domain = example.domain.word();
+    let facts = example.facts;
+    let goal = example.goal;
+    let certificate = example.certificate;
+    let same = is_same(got, example.outcome);
+    let mark = mark(same);
+    println!(
+        rt,
+        "{domain}: from '{facts}' to '{goal}' by '{certificate}': {got}, {mark}"
+    )?;
+    Ok(same)
+}
+
+fn run(rt: &LibcRuntime) -> Result<(), AnyError> {
+    let mut wrong = 0u32;
+    for example in EXAMPLES {
+        if !show(rt, example)? {
+            wrong = wrong.saturating_add(1);
+        }
+    }
+    if wrong > 0 {
+        return Err("some example does not give what it must".into());
+    }
+    table_stands();
+    let n = EXAMPLES.len();
+    println!(
+        rt,
+        "{n} examples, each also a theorem about the definitions"
+    )?;
+    Ok(())
+}
+
+fn main(rt: LibcRuntime) -> Result<(), AnyError> {
+    rt.report(run(&rt))
+}
