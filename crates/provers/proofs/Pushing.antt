@@ -49,7 +49,7 @@ from-more q h =
     ap (counting q) e
 
 module _ (q : ℕ) (rows : List Derived) where
-  without-more : q < 16 → withoutAll (from q) rows ≡ bind (without q rows) (withoutAll (from (q + 1)))
+  pub without-more : q < 16 → withoutAll (from q) rows ≡ bind (without q rows) (withoutAll (from (q + 1)))
   unfolding withoutAll
   without-more h = ap (λ l. withoutAll l rows) (from-more q h)
 
