@@ -12,6 +12,11 @@ pub all-more : (p : ℕ → Bool) (n : ℕ) → allBelow n p ≡ true → p n �
 unfolding allBelow
 all-more p n h k = rw add-one (and-from _ _ h k)
 
+pub all-from : (p : ℕ → Bool) (n : ℕ) → ((j : ℕ) → j < n → p j ≡ true) → allBelow n p ≡ true
+unfolding allBelow
+all-from p zero h = refl
+all-from p (suc n) h = and-from _ _ (all-from p n (λ j l. h j (omega arith))) (h n (omega arith))
+
 pub all-broken : (p : ℕ → Bool) (n j : ℕ) → j < n → p j ≡ false → allBelow n p ≡ false
 unfolding allBelow
 all-broken p zero j h k = let no : ⊥ = omega arith in absurd no

@@ -1,0 +1,4 @@
+pub mod Proposals
+pub mod Derivations
+pub mod Elimination
+pub mod WorkLists
