@@ -1,9 +1,11 @@
+use asking::linear_certificate;
 use crate::by_hand::ByHand;
 use crate::commands::Command;
 use crate::commands::Complaint;
 use crate::commands::ComplaintDisplay;
 use crate::commands::ComplaintFromRefused;
 use crate::commands::DomainName;
+use crate::commands::ProverName;
 use crate::commands::read_command;
 use domains::Fault;
 use domains::Linear;
@@ -11,6 +13,10 @@ use domains::LinearDomain;
 use domains::Modes;
 use domains::ModesDomain;
 use domains::verified;
+use provers::Empty;
+use provers::EmptyProver;
+use provers::MOST_NUMBERS;
+use provers::Prover;
 use rows::Question;
 use std::io;
 use std::str::from_utf8;
@@ -20,8 +26,9 @@ const HELP: &'static str = "commands, one a line, words separated by single blan
   fact ROW                 add a fact to the question
   goal ROW                 set the question's goal
   verify DOMAIN N N ..     ask a domain whether the certificate is good
+  ask PROVER               ask a prover for a certificate
   help                     this text
-ROW is as in '-1*q0 2*q3 <= 5', '1*q0 != 3' or '0 <= -1'; DOMAIN is linear or modes
+ROW is as in '-1*q0 2*q3 <= 5', '1*q0 != 3' or '0 <= -1'; DOMAIN is linear or modes, PROVER fm or empty
 a line that is empty or begins with # is passed over";
 
 // What a command answers, beside what it changes.
@@ -29,6 +36,7 @@ enum Answer {
     Silence,
     Help,
     Outcome(Result<(), Fault>),
+    Proposal(Option<usize>, [u32; 128]),
 }
 
 fn verify(question: &ByHand, domain: DomainName, certificate: &[u32]) -> Result<Answer, Complaint> {
@@ -44,6 +52,22 @@ fn verify(question: &ByHand, domain: DomainName, certificate: &[u32]) -> Result<
         DomainName::Modes => verified(&Modes, asked, certificate),
     };
     Ok(Answer::Outcome(outcome))
+}
+
+fn ask(question: &ByHand, prover: ProverName) -> Result<Answer, Complaint> {
+    let Some(goal) = question.goal() else {
+        return Err(Complaint::NoGoal);
+    };
+    let asked = Question {
+        facts: question.facts(),
+        goal: &goal,
+    };
+    let mut buffer = [0u32; MOST_NUMBERS];
+    let count = match prover {
+        ProverName::FourierMotzkin => linear_certificate(asked, &mut buffer),
+        ProverName::Empty => Empty.ask(asked, &mut buffer),
+    };
+    Ok(Answer::Proposal(count, buffer))
 }
 
 fn obey(question: &mut ByHand, command: Command) -> Result<Answer, Complaint> {
@@ -62,6 +86,7 @@ fn obey(question: &mut ByHand, command: Command) -> Result<Answer, Complaint> {
             Ok(Answer::Silence)
         }
         Command::Verify(domain, certificate) => verify(question, domain, certificate.as_slice()),
+        Command::Ask(prover) => ask(question, prover),
     }
 }
 
@@ -77,11 +102,23 @@ fn print_outcome(rt: &LibcRuntime, outcome: Result<(), Fault>) -> io::Result<()>
     }
 }
 
+fn print_proposal(rt: &LibcRuntime, count: Option<usize>, numbers: &[u32]) -> io::Result<()> {
+    let Some(count) = count else {
+        return println!(rt, "none");
+    };
+    print!(rt, "proposal")?;
+    for n in numbers.iter().take(count) {
+        print!(rt, " {n}")?;
+    }
+    println!(rt, "")
+}
+
 fn print_answer(rt: &LibcRuntime, answer: Result<Answer, Complaint>) -> io::Result<()> {
     match answer {
         Ok(Answer::Silence) => Ok(()),
         Ok(Answer::Help) => println!(rt, "{HELP}"),
         Ok(Answer::Outcome(outcome)) => print_outcome(rt, outcome),
+        Ok(Answer::Proposal(count, numbers)) => print_proposal(rt, count, &numbers),
         Err(complaint) => println!(rt, "error: {complaint}"),
     }
 }

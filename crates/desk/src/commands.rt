@@ -14,6 +14,12 @@ pub enum DomainName {
     Modes,
 }
 
+#[derive(Clone, Copy)]
+pub enum ProverName {
+    FourierMotzkin,
+    Empty,
+}
+
 // What a line asks for.
 #[derive(Drop)]
 pub enum Command {
@@ -22,6 +28,7 @@ pub enum Command {
     Fact(Row),
     Goal(Row),
     Verify(DomainName, Vec<u32>),
+    Ask(ProverName),
 }
 
 // Why a line is no command, or has no meaning where it stands.
@@ -30,6 +37,7 @@ pub enum Complaint {
     Unknown,
     Bare,
     Domain,
+    Prover,
     NoGoal,
     NoText,
     Misread(Misread),
@@ -55,9 +63,10 @@ pub impl<T: Drop> From<Refused<T>> for Complaint as ComplaintFromRefused {
 
 fn sentence(complaint: Complaint) -> &'static str {
     match complaint {
-        Complaint::Unknown => "no such command: expected question-new, fact, goal, verify or help",
+        Complaint::Unknown => "no such command: expected question-new, fact, goal, verify, ask or help",
         Complaint::Bare => "something stands after the command: expected the command alone",
         Complaint::Domain => "no such domain: expected linear or modes",
+        Complaint::Prover => "no such prover: expected fm or empty",
         Complaint::NoGoal => "the question has no goal yet: expected goal ROW first",
         Complaint::NoText => "the line is no UTF-8 text: expected a command",
         Complaint::Misread(_) => "",
@@ -99,6 +108,16 @@ fn read_domain(word: &str) -> Result<DomainName, Complaint> {
     }
 }
 
+fn read_prover(word: &str) -> Result<ProverName, Complaint> {
+    if word == "fm" {
+        Ok(ProverName::FourierMotzkin)
+    } else if word == "empty" {
+        Ok(ProverName::Empty)
+    } else {
+        Err(Complaint::Prover)
+    }
+}
+
 fn read_numbers(heap: Global, words: Option<&str>) -> Result<Vec<u32>, Complaint> {
     let mut numbers = Vec::new(heap);
     let Some(text) = words else {
@@ -131,6 +150,8 @@ pub fn read_command(heap: Global, line: &str) -> Result<Command, Complaint> {
         Ok(Command::Goal(read_row(heap, rest)?))
     } else if word == "verify" {
         read_verify(heap, rest)
+    } else if word == "ask" {
+        Ok(Command::Ask(read_prover(rest)?))
     } else {
         Err(Complaint::Unknown)
     }
