@@ -6,4 +6,3 @@ pub mod Combining
 pub mod Stepping
 pub mod Originals
 pub mod Certified
-pub mod Examples

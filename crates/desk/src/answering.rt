@@ -1,4 +1,3 @@
-use asking::linear_certificate;
 use crate::by_hand::ByHand;
 use crate::commands::Command;
 use crate::commands::Complaint;
@@ -7,6 +6,7 @@ use crate::commands::ComplaintFromRefused;
 use crate::commands::DomainName;
 use crate::commands::ProverName;
 use crate::commands::read_command;
+use asking::linear_certificate;
 use domains::Fault;
 use domains::Linear;
 use domains::LinearDomain;

@@ -63,7 +63,8 @@ pub impl<T: Drop> From<Refused<T>> for Complaint as ComplaintFromRefused {
 
 fn sentence(complaint: Complaint) -> &'static str {
     match complaint {
-        Complaint::Unknown => "no such command: expected question-new, fact, goal, verify, ask or help",
+        Complaint::Unknown =>
+            "no such command: expected question-new, fact, goal, verify, ask or help",
         Complaint::Bare => "something stands after the command: expected the command alone",
         Complaint::Domain => "no such domain: expected linear or modes",
         Complaint::Prover => "no such prover: expected fm or empty",

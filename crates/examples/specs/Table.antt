@@ -5,6 +5,7 @@ use mathlib.Core.Path.{_≡_, refl, ap₂}
 use Prim.Native.Nat.{ℕ}
 use lib.IntN.{ℤ, pos, negsuc}
 use lib.ListN.{replicate}
+use Rattle.std.specs.declared.option.Option.the-variants.{None}
 use Rattle.std.specs.declared.result.Result.the-variants.{Ok}
 use Rattle.rows.specs.declared.row.Row.{Row}
 use Rattle.rows.specs.declared.row.Kind.the-variants.{AtMost}
@@ -13,6 +14,7 @@ use Rattle.domains.specs.declared.fault.Reason.the-variants.{Shape, Number, Sum
 use Rattle.domains.specs.Faults.{Outcome, fault}
 use Rattle.domains.specs.Linear.{linear}
 use Rattle.domains.specs.Modes.{modes}
+use Rattle.provers.specs.Elimination.{fourierMotzkin}
 
 abbrev pub zeros : List ℤ
 zeros = replicate 15 (pos 0)
@@ -55,3 +57,5 @@ pub record Table : Type 0 where
   pub modes-half : modes half never [] ≡ good
   pub modes-top : modes [] upTo15 [] ≡ good
   pub modes-case : modes [] upTo14 [] ≡ fault Case
+  -- no whole number is one half, but elimination counts in fractions too
+  pub half-unproposed : fourierMotzkin half never ≡ None

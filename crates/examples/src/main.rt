@@ -1,13 +1,13 @@
 // Every worked example, run and compared with what it must give.
 ghost use Rattle.examples.specs.Table.{Table};
 
-mod verifying;
+mod questions;
 
+use questions::EXAMPLES;
+use questions::Example;
+use questions::answer_to;
+use questions::word_of;
 use std::error::AnyError;
-use verifying::EXAMPLES;
-use verifying::Example;
-use verifying::outcome_of;
-use verifying::outcome_word;
 
 // The examples hold of the definitions, by computing.
 fn table_stands()
@@ -23,9 +23,9 @@ fn mark(same: bool) -> &'static str {
 }
 
 fn show(rt: &LibcRuntime, example: Example) -> Result<bool, AnyError> {
-    let outcome = outcome_of(rt.alloc(), example)?;
-    let got = outcome_word(outcome);
-    let domain = example.domain.word();
+    let answer = answer_to(rt.alloc(), example)?;
+    let got = word_of(answer);
+    let asked = example.asked.word();
     let facts = example.facts;
     let goal = example.goal;
     let certificate = example.certificate;
@@ -33,7 +33,7 @@ fn show(rt: &LibcRuntime, example: Example) -> Result<bool, AnyError> {
     let mark = mark(same);
     println!(
         rt,
-        "{domain}: from '{facts}' to '{goal}' by '{certificate}': {got}, {mark}"
+        "{asked}: from '{facts}' to '{goal}' by '{certificate}': {got}, {mark}"
     )?;
     Ok(same)
 }

@@ -1,3 +1,4 @@
+use asking::linear_certificate;
 use domains::Fault;
 use domains::Linear;
 use domains::LinearDomain;
@@ -6,92 +7,103 @@ use domains::ModesDomain;
 use domains::verified;
 use notation::read_row;
 use notation::read_u32;
+use provers::MOST_NUMBERS;
 use rows::Question;
 use rows::Row;
 use std::alloc::Global;
 use std::error::AnyError;
 
+// What a question is put to.
 #[derive(Clone, Copy)]
-pub enum DomainName {
+pub enum Asked {
     Linear,
     Modes,
+    FourierMotzkin,
 }
 
-impl DomainName {
+impl Asked {
     pub fn word(self) -> &'static str {
         match self {
-            DomainName::Linear => "linear",
-            DomainName::Modes => "modes",
+            Asked::Linear => "linear",
+            Asked::Modes => "modes",
+            Asked::FourierMotzkin => "fm",
         }
     }
 }
 
-// A question with a certificate, and the word of what a domain must answer; facts are separated by commas.
+// A question with a certificate, and the word of the answer that must come; facts are separated by commas.
 #[derive(Clone, Copy)]
 pub struct Example {
-    pub domain: DomainName,
+    pub asked: Asked,
     pub facts: &'static str,
     pub goal: &'static str,
     pub certificate: &'static str,
     pub outcome: &'static str,
 }
 
-pub const EXAMPLES: [Example; 8] = [
+pub const EXAMPLES: [Example; 9] = [
     Example {
-        domain: DomainName::Linear,
+        asked: Asked::Linear,
         facts: "-1*q0 <= 0",
         goal: "-1*q0 <= 0",
         certificate: "1 1",
         outcome: "good",
     },
     Example {
-        domain: DomainName::Linear,
+        asked: Asked::Linear,
         facts: "-1*q0 <= 0",
         goal: "-1*q0 <= 0",
         certificate: "1 2",
         outcome: "sum",
     },
     Example {
-        domain: DomainName::Linear,
+        asked: Asked::Linear,
         facts: "-1*q0 <= 0",
         goal: "-1*q0 <= 0",
         certificate: "1",
         outcome: "shape",
     },
     Example {
-        domain: DomainName::Linear,
+        asked: Asked::Linear,
         facts: "-1*q0 <= 0",
         goal: "-1*q0 <= 0",
         certificate: "1000000 1000000",
         outcome: "good",
     },
     Example {
-        domain: DomainName::Linear,
+        asked: Asked::Linear,
         facts: "-1*q0 <= 0",
         goal: "-1*q0 <= 0",
         certificate: "1000001 1000001",
         outcome: "number",
     },
     Example {
-        domain: DomainName::Modes,
+        asked: Asked::Modes,
         facts: "2*q0 <= 1,-2*q0 <= -1",
         goal: "0 <= -1",
         certificate: "",
         outcome: "good",
     },
     Example {
-        domain: DomainName::Modes,
+        asked: Asked::Modes,
         facts: "",
         goal: "1*q0 <= 15",
         certificate: "",
         outcome: "good",
     },
     Example {
-        domain: DomainName::Modes,
+        asked: Asked::Modes,
         facts: "",
         goal: "1*q0 <= 14",
         certificate: "",
         outcome: "case",
+    },
+    Example {
+        asked: Asked::FourierMotzkin,
+        facts: "2*q0 <= 1,-2*q0 <= -1",
+        goal: "0 <= -1",
+        certificate: "",
+        outcome: "none",
     },
 ];
 
@@ -123,14 +135,34 @@ fn numbers_of(heap: Global, text: &str) -> Result<Vec<u32>, AnyError> {
     Ok(numbers)
 }
 
-pub fn outcome_word(outcome: Result<(), Fault>) -> &'static str {
-    match outcome {
-        Ok(()) => "good",
-        Err(fault) => fault.reason.word(),
+// What came: an outcome of a domain, or how many numbers a prover wrote.
+#[derive(Clone, Copy)]
+pub enum Got {
+    Outcome(Result<(), Fault>),
+    Proposal(Option<usize>),
+}
+
+pub fn word_of(got: Got) -> &'static str {
+    match got {
+        Got::Outcome(Ok(())) => "good",
+        Got::Outcome(Err(fault)) => fault.reason.word(),
+        Got::Proposal(Some(_)) => "proposal",
+        Got::Proposal(None) => "none",
     }
 }
 
-pub fn outcome_of(heap: Global, example: Example) -> Result<Result<(), Fault>, AnyError> {
+fn put(asked: Asked, question: Question<'_>, certificate: &[u32]) -> Got {
+    match asked {
+        Asked::Linear => Got::Outcome(verified(&Linear, question, certificate)),
+        Asked::Modes => Got::Outcome(verified(&Modes, question, certificate)),
+        Asked::FourierMotzkin => {
+            let mut buffer = [0u32; MOST_NUMBERS];
+            Got::Proposal(linear_certificate(question, &mut buffer))
+        }
+    }
+}
+
+pub fn answer_to(heap: Global, example: Example) -> Result<Got, AnyError> {
     let facts = rows_of(heap, example.facts)?;
     let goals = rows_of(heap, example.goal)?;
     let numbers = numbers_of(heap, example.certificate)?;
@@ -141,10 +173,5 @@ pub fn outcome_of(heap: Global, example: Example) -> Result<Result<(), Fault>, A
         facts: facts.as_slice(),
         goal,
     };
-    Ok(
-        match example.domain {
-            DomainName::Linear => verified(&Linear, question, numbers.as_slice()),
-            DomainName::Modes => verified(&Modes, question, numbers.as_slice()),
-        },
-    )
+    Ok(put(example.asked, question, numbers.as_slice()))
 }
