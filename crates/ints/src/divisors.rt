@@ -3,7 +3,7 @@ ghost use Prim.Native.Nat.{_<_};
 ghost use Rattle.ints.specs.Divisors.{gcdOf, divisorOf};
 
 // Euclid's algorithm.
-pub fn gcd(a: u64, b: u64) -> u64
+fn gcd(a: u64, b: u64) -> u64
     ensures { λ r. ⌜ r ≡ gcdOf a b ⌝ }
 {
     let mut x = a;

@@ -4,7 +4,6 @@ ghost use lib.IntN.{pos, _*ℤ_};
 pub mod divisors;
 
 pub use divisors::divisor;
-pub use divisors::gcd;
 
 // A multiplier times a signed number: the product always fits.
 pub fn times(m: u32, z: i32) -> i64

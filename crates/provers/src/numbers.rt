@@ -3,12 +3,13 @@ ghost use Prim.Native.Nat.{_+_, _*_, _/_, _≤_, _<_};
 ghost use Rattle.rows.specs.Limits.{small};
 ghost use Rattle.provers.specs.Derivations.{blend, quotient, kept, modest};
 use ints::times;
+use rows::ROW_LIMIT;
 
 // No multiplier of a derived row is larger.
 pub const MOST_TIMES: u64 = 1_000_000;
 
 // No coefficient or bound of a derived row lies further from 0.
-pub const MOST_SIZE: u64 = 4_000_000;
+pub const MOST_SIZE: u64 = ROW_LIMIT as u64;
 
 // a times x plus b times y: the sum always fits.
 pub fn blend(a: u32, x: i32, b: u32, y: i32) -> i64

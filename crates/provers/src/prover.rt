@@ -17,10 +17,11 @@ pub trait Prover {
     law short: { (s : Self) (facts : List Row) (goal : Row) → Short (proposal s facts goal) };
 
     // How many numbers it wrote at the buffer's front, or none where it proposes none or more than the buffer holds; what is not written stays as it was.
-    // The prover is lent shared and its proposals are of its value alone, so asking changes none of them.
+    // Asking changes no proposal.
     fn ask(&self, question: Question<'_>, buffer: &mut [u32]) -> Option<usize>
         ensures count { λ r. ⌜ r ≡ answer (proposal (now (self .entry)) (now (question .entry .facts)) (now (question .entry .goal))) (now (buffer .entry)) ⌝ }
-        ensures after { λ _. ⌜ now (buffer .exit) ≡ filled (proposal (now (self .entry)) (now (question .entry .facts)) (now (question .entry .goal))) (now (buffer .entry)) ⌝ };
+        ensures after { λ _. ⌜ now (buffer .exit) ≡ filled (proposal (now (self .entry)) (now (question .entry .facts)) (now (question .entry .goal))) (now (buffer .entry)) ⌝ }
+        ensures same { λ _. ⌜ proposal (now (self .exit)) ≡ proposal (now (self .entry)) ⌝ };
 }
 
 // Writes a proposal of these numbers, as `ask` does.
