@@ -30,10 +30,11 @@ original i r = record { coefs = r .coefs; bound = r .bound; times = set (replica
 abbrev pub negation : Row → Option Row
 negation r = rowOf (map (λ j. negℤ (coef r j)) (counting 0 16)) (negℤ (r .bound) -ℤ pos 1) AtMost
 
--- a times p plus b times m
+-- a times x plus b times y
 abbrev pub blend : ℕ → ℕ → ℤ → ℤ → ℤ
 blend a b x y = (pos a *ℤ x) +ℤ (pos b *ℤ y)
 
+-- the same of two rows
 abbrev pub blended : ℕ → ℕ → Derived → Derived → Derived
 blended a b p m = record {
   coefs = map (λ j. blend a b (coefAt j p) (coefAt j m)) (counting 0 16);
