@@ -18,11 +18,11 @@ use Rattle.rows.specs.declared.row.Row.{Row}
 use Rattle.rows.specs.declared.row.Kind.{Kind}
 use Rattle.rows.specs.declared.row.Kind.the-variants.{AtMost, Unequal}
 use Rattle.rows.specs.Questions.{isAtMost, wellShaped}
-use Rattle.domains.specs.declared.fault.Reason.{Reason}
 use Rattle.domains.specs.declared.fault.Reason.the-variants.{Shape, Number, Kind as OfKind, Sum}
 use Rattle.domains.specs.declared.linear.Column.{Column}
 use Rattle.domains.specs.declared.linear.Column.the-variants.{Coef, Bound}
-use Rattle.domains.specs.Faults.{Outcome, Good, fault}
+use Rattle.domains.specs.Faults.{Good}
+use Rattle.domains.proofs.Outcomes.{good-at}
 use Rattle.domains.specs.Linear.{entry, negated, fitting, numbers, kindOk, kinds, sums, linear}
 use Rattle.provers.specs.declared.derived.Derived.{Derived}
 use Rattle.provers.specs.Derivations.{coefAt, timesAt, blend, original, negation, allModest, combine}
@@ -119,10 +119,6 @@ module _ (facts : List Row) (goal : Row) (few : length facts ≤ 24) where
   kinds-front (suc k) [] rs h = refl
   kinds-front (suc k) (m ∷ ms) [] h = refl
   kinds-front (suc k) (m ∷ ms) (r ∷ rs) h = and-from _ _ (kind-ok m (r .kind) (h 0 r (omega arith) refl)) (kinds-front k ms rs (λ i s l e z. h (suc i) s (omega arith) e z))
-
-  good-at : (b : Bool) (x : Outcome) (r : Reason) → b ≡ true → Good x → Good (cond b x (fault r))
-  good-at true x r e g = g
-  good-at false x r e g = absurd (true≢false (sym e))
 
   good : (w : Derived) → Derives 16 w → ltZ (w .bound) (pos 0) ≡ true → wellShaped facts goal ≡ true → Good (linear facts goal (take (length facts + 1) (w .times)))
   good w d below shaped =
