@@ -1,0 +1,12 @@
+pub mod Examples
+pub mod Worths
+pub mod Comparisons
+pub mod Walks
+pub mod Same
+pub mod Duties
+pub mod Assigning
+pub mod Induction
+pub mod Settlings
+pub mod Readiness
+pub mod Entry
+pub mod Theorem

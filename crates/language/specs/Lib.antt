@@ -1,0 +1,10 @@
+pub mod Vocabulary
+pub mod Limits
+pub mod Tree
+pub mod Terms
+pub mod Comparing
+pub mod Walking
+pub mod Running
+pub mod Histories
+pub mod Promise
+pub mod Examples
