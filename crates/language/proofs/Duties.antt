@@ -23,7 +23,7 @@ use Rattle.language.specs.Terms.{zeroTerm, worth}
 use Rattle.language.specs.Comparing.{atMost, satisfied, conditionRows, conditionsRows}
 use Rattle.language.specs.Walking.{Obligation, Note, owes, fault, Stand, limit, owe, oweAll, oweChecks, fresh, freshWith, orFresh, Mode, infer, check, join}
 use Rattle.language.specs.Running.{Dropped}
-use Rattle.language.specs.Histories.{isGuard}
+use Rattle.language.specs.Drafts.{isGuard}
 use Rattle.language.proofs.Worths.{worth-constant}
 use Rattle.language.proofs.Comparisons.{Surely, at-most-met, condition-to}
 

@@ -18,7 +18,9 @@ use Rattle.language.specs.declared.ending.Ending.{Ending}
 use Rattle.language.specs.Tree.{Condition, Param, aNumber, aList, Rule, ruleAt, atLists}
 use Rattle.language.specs.Comparing.{satisfied}
 use Rattle.language.specs.Running.{Event, came, called, returned, State, Outcome, done, stop, wild, Ran, inRange, Dropped, noPart, partAt, lengthOf, Program, enter, run, madeIn}
-use Rattle.language.specs.Histories.{Sheet, on, gathered, every, partFits, allowed, firstBroken, Answer, refused, ended, astray, endOf, programOf, runRule, runIfMet, runIfAllowed, runIfCallable, valuesFor}
+use Rattle.language.specs.Drafts.{Sheet}
+use Rattle.language.specs.Histories.{on}
+use Rattle.language.specs.Entering.{gathered, every, partFits, allowed, firstBroken, Answer, refused, ended, astray, endOf, programOf, runRule, runIfMet, runIfAllowed, runIfCallable, valuesFor}
 use Rattle.language.specs.Promise.{Sound, DropsListed, SameEnd, Agrees}
 use Rattle.language.proofs.Comparisons.{none-some}
 use Rattle.language.proofs.Assigning.{both-left, both-right}
@@ -126,8 +128,8 @@ module _ (sheet : Sheet) (list : List ℕ) (S : Dropped) (same : (n : ℕ) → S
       dropped = subst (All (DropsListed list)) (sym (h .log)) (drops (p .log))
 
       go : (x : Outcome ℤ) → Ends N Q x → Agrees sheet list (endOf fuel (record { log = o .log; outcome = x })) (endOf fuel (record { log = p .log; outcome = x }))
-      go (done v s) t = (record { kind = refl; value = refl; place = refl; steps = refl; cells = refl; made = made }, good, dropped)
-      go (stop kind place s) t = (record { kind = refl; value = refl; place = refl; steps = refl; cells = refl; made = made }, good, dropped)
+      go (done v s) t = (record { kind = refl; value = refl; place = refl; steps = refl; bookChecks = refl; fullChecks = refl; cells = refl; made = made }, good, dropped)
+      go (stop kind place s) t = (record { kind = refl; value = refl; place = refl; steps = refl; bookChecks = refl; fullChecks = refl; cells = refl; made = made }, good, dropped)
       go wild t = t
 
   module _ (low : sheet .low ≤ℤ pos 0) (zeroFits : T (inRange (sheet .low) (sheet .high) (pos 0)))

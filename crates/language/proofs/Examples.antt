@@ -8,7 +8,8 @@ use Rattle.language.specs.Terms.{each, constant, quantity, plus, minus, scaled
 use Rattle.language.specs.Comparing.{atMost, unequal, sideValue, sideTerm, conditionRows}
 use Rattle.language.specs.Walking.{limit, owe, oweAll, assume, assumeAll, oweChecks, fresh, freshWith, orFresh, finish, join, sameParams, walk, walks, startKnown, walkRules, obligationsOf, firstFault}
 use Rattle.language.specs.Running.{give, halt, emit, _>>=_, spend, check, inside, load, store, fit, values, node, run, madeIn}
-use Rattle.language.specs.Histories.{refusalOf, firstOpen, gathered, every, firstBroken}
+use Rattle.language.specs.Drafts.{refusalOf, firstOpen}
+use Rattle.language.specs.Entering.{gathered, every, firstBroken}
 use Rattle.language.specs.Examples.{Worked}
 
 pub by-computing : Worked

@@ -429,6 +429,7 @@ module _ (R : List Rule) (P : Program) (S : Dropped) (N : ℕ) where
         let sides = g .notes ++ k .notes in
         let yes-notes = i .notes ++ x .notes in
         let no-notes = j .notes ++ y .notes in
+        let f = join μ p t (sides ++ (yes-notes ++ no-notes)) in
         let o₁ = join-notes (P .low) (P .high) S μ p t (sides ++ (yes-notes ++ no-notes)) o in
         let o₂ = all-left _ sides (yes-notes ++ no-notes) o₁ in
         let o₃ = all-right _ sides (yes-notes ++ no-notes) o₁ in
@@ -438,12 +439,12 @@ module _ (R : List Rule) (P : Program) (S : Dropped) (N : ℕ) where
         let w = both (found g) (found k) gk (walked (g .stand) infer b h₁) r h₁ z in
         let md₂ = mode-on μ (s .next) (k .stand .next) q (w .asg) L (w .agree) (w .up) md in
         same-cond S N (Good R S) _ (holds c u v) _ _ _ _
-        (λ l. same-post S N (Good R S) _ _ _ _ (λ n m. post-from μ L q (w .asg) (s .next) (k .stand .next) _ _ n (w .agree) (w .up) (joined μ L p t (sides ++ (yes-notes ++ no-notes)) (x .stand .facts) (x .term) n (w .here) o m))
+        (λ l. same-post S N (Good R S) _ _ _ _ (λ n m. post-from μ L q (w .asg) (s .next) (k .stand .next) (f .stand .facts) (f .term) n (w .agree) (w .up) (joined μ L p t (sides ++ (yes-notes ++ no-notes)) (x .stand .facts) (x .term) n (w .here) o m))
         (ih .at d μ L Γ (knowing (k .stand) (i .facts)) E (w .asg) md₂
         (here-facts (w .here) (i .facts) (assume-firm (k .stand .next) p (k .stand .facts) (rows c (g .term) (k .term)) (w .here .firm) (rows-firm c (k .stand .next) (g .term) (k .term) (w .one) (w .other)))
         (assume-meets (w .asg) p (k .stand .facts) (rows c (g .term) (k .term)) (w .here .facts) (rows-from c (w .asg) (g .term) (k .term) (subst₂ (λ (m : ℤ) (n : ℤ). T (holds c m n)) (sym (w .first)) (sym (w .second)) l))))
         (all-right _ (i .notes) (x .notes) (all-left _ yes-notes no-notes o₃))))
-        (λ l. same-post S N (Good R S) _ _ _ _ (λ n m. post-from μ L q (w .asg) (s .next) (k .stand .next) _ _ n (w .agree) (w .up) (joined μ L p t (sides ++ (yes-notes ++ no-notes)) (y .stand .facts) (y .term) n (w .here) o m))
+        (λ l. same-post S N (Good R S) _ _ _ _ (λ n m. post-from μ L q (w .asg) (s .next) (k .stand .next) (f .stand .facts) (f .term) n (w .agree) (w .up) (joined μ L p t (sides ++ (yes-notes ++ no-notes)) (y .stand .facts) (y .term) n (w .here) o m))
         (ih .at e μ L Γ (counted (knowing (k .stand) (j .facts)) (x .stand .count)) E (w .asg) md₂
         (here-facts (w .here) (j .facts) (assume-firm (k .stand .next) p (k .stand .facts) (otherwise c (g .term) (k .term)) (w .here .firm) (otherwise-firm c (k .stand .next) (g .term) (k .term) (w .one) (w .other)))
         (assume-meets (w .asg) p (k .stand .facts) (otherwise c (g .term) (k .term)) (w .here .facts) (otherwise-from c (w .asg) (g .term) (k .term) (subst₂ (λ (m : ℤ) (n : ℤ). T (not (holds c m n))) (sym (w .first)) (sym (w .second)) l))))

@@ -10,3 +10,5 @@ pub mod Settlings
 pub mod Readiness
 pub mod Entry
 pub mod Theorem
+pub mod Fitting
+pub mod Laws

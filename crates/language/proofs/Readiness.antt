@@ -19,9 +19,9 @@ use Rattle.language.specs.declared.refusal.Refusal.the-variants.{Closed, Full}
 use Rattle.language.specs.Tree.{Expr, Rule, ruleAt, noExpr}
 use Rattle.language.specs.Walking.{Obligation, Note, owes, fault, Got, startKnown, walkBody, walkRules, obligationsOf, firstFault}
 use Rattle.language.specs.Running.{Dropped, Program}
-use Rattle.language.specs.Histories.{Sheet, isGuard, firstOpen, answered}
-use Rattle.language.specs.Promise.{GuardOn, Answers}
+use Rattle.language.specs.Drafts.{Sheet, isGuard, firstOpen, answered}
 use Rattle.language.specs.Histories.{on}
+use Rattle.language.specs.Promise.{GuardOn, Answers}
 use Rattle.language.proofs.Comparisons.{none-some}
 use Rattle.language.proofs.Walks.{Counts}
 use Rattle.language.proofs.Assigning.{both-left, both-right}

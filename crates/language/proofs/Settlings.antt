@@ -25,7 +25,8 @@ use Rattle.language.specs.declared.refusal.Refusal.{Refusal}
 use Rattle.language.specs.declared.refusal.Refusal.the-variants.{Closed, Narrow}
 use Rattle.language.specs.Walking.{Obligation}
 use Rattle.language.specs.Running.{Dropped}
-use Rattle.language.specs.Histories.{Sheet, Draft, draftOf, Domain, Prover, wide, judged, verified, asked, settle, markIf, settled, Step, settling, ready, draftAfter, isGood, goodProposal, goodFor, good, plainAfter, on, isGuard, marked, firstOpen, answered, readiness}
+use Rattle.language.specs.Drafts.{Sheet, Draft, draftOf, Domain, Prover, wide, judged, verified, asked, settle, markIf, settled, isGuard, marked, firstOpen, answered, readiness}
+use Rattle.language.specs.Histories.{Step, settling, ready, draftAfter, isGood, goodProposal, goodFor, good, plainAfter, on}
 use Rattle.language.specs.Promise.{GoodSettling, HadGood, GuardOn, Answers}
 use Rattle.language.proofs.Comparisons.{none-some}
 use Rattle.language.proofs.Assigning.{both-left, both-right}
@@ -94,13 +95,13 @@ module _ (sheet : Sheet) where
   listed-before : (history : List Step) (list : List ℕ) (n : ℕ) → T (on list n) → T (on (plainAfter sheet list history) n)
   unfolding plainAfter
   listed-before [] list n h = h
-  listed-before (settling m d p ∷ history) list n h = listed-before history _ n (on-added (good sheet m d p) m list n h)
+  listed-before (settling m d law p b ∷ history) list n h = listed-before history _ n (on-added (good sheet m d p) m list n h)
   listed-before (ready ∷ history) list n h = listed-before history list n h
 
   pub listed-from : (history : List Step) (list : List ℕ) (n : ℕ) → HadGood sheet n history → T (on (plainAfter sheet list history) n)
   unfolding plainAfter
   listed-from [] list n h = absurd h
-  listed-from (settling m d p ∷ history) list n h =
+  listed-from (settling m d law p b ∷ history) list n h =
       ⊎-elim
       (λ g. listed-before history _ n (go (good sheet m d p) (good-from m d p (subst (λ (k : ℕ). GoodSettling sheet k d p) (sym (g .0)) (g .1))) (g .0)))
       (λ l. listed-from history _ n l) h
@@ -113,7 +114,7 @@ module _ (sheet : Sheet) where
   pub listed-to : (history : List Step) (list : List ℕ) (n : ℕ) → T (on (plainAfter sheet list history) n) → T (on list n) ⊎ HadGood sheet n history
   unfolding plainAfter
   listed-to [] list n h = inl h
-  listed-to (settling m d p ∷ history) list n h =
+  listed-to (settling m d law p b ∷ history) list n h =
       ⊎-elim
       (λ l. go (good sheet m d p) (good-to m d p) l)
       (λ g. inr (inr g)) (listed-to history _ n h)
@@ -174,7 +175,7 @@ module _ (sheet : Sheet) where
   pub marks-after : (history : List Step) (draft : Draft) (list : List ℕ) → Marks draft list → Marks (draftAfter draft history) (plainAfter sheet list history)
   unfolding draftAfter plainAfter
   marks-after [] draft list h = h
-  marks-after (settling n d p ∷ history) draft list h = marks-after history (settled draft n d p) _ (marks-step draft list n d p h)
+  marks-after (settling n d law p b ∷ history) draft list h = marks-after history (settled draft n d p) _ (marks-step draft list n d p h)
   marks-after (ready ∷ history) draft list h = marks-after history draft list h
 
   pub marks-fresh : Marks (draftOf sheet) []
@@ -190,12 +191,12 @@ module _ (sheet : Sheet) where
   pub settled-follows : (n : ℕ) (history : List Step) → HadGood sheet n history → (o : Obligation) → nth (sheet .obligations) n ≡ Some o → Follows (sheet .low) (sheet .high) (o .facts) (o .goal)
   settled-follows n [] h o e = absurd h
   settled-follows n (ready ∷ history) h o e = settled-follows n history h o e
-  settled-follows n (settling m d p ∷ history) h o e = ⊎-elim (λ x. follows (x .1)) (λ x. settled-follows n history x o e) h
+  settled-follows n (settling m d law p b ∷ history) h o e = ⊎-elim (λ x. follows (x .1)) (λ x. settled-follows n history x o e) h
     where
       follows : GoodSettling sheet n d p → Follows (sheet .low) (sheet .high) (o .facts) (o .goal)
       follows g =
           let same : g .obligation ≡ o = cc (g .is) in
-          let f = d .sound (g .obligation .facts) (g .obligation .goal) (g .certificate) (g .outcome-good) in
+          let f = law .sound (g .obligation .facts) (g .obligation .goal) (g .certificate) (g .outcome-good) in
           let low : d .low ≤ℤ sheet .low = leZ-yes (both-left (leZ (d .low) (sheet .low)) _ (g .holds-range)) in
           let high : sheet .high ≤ℤ d .high = leZ-yes (both-right (leZ (d .low) (sheet .low)) _ (g .holds-range)) in
           subst (λ (x : Obligation). Follows (sheet .low) (sheet .high) (x .facts) (x .goal)) same

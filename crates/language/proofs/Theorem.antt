@@ -23,7 +23,9 @@ use Rattle.language.specs.declared.refusal.Refusal.the-variants.{Range}
 use Rattle.language.specs.Tree.{Expr, Rule, noExpr}
 use Rattle.language.specs.Walking.{Obligation, walkRules, obligationsOf, firstFault}
 use Rattle.language.specs.Running.{inRange, Dropped}
-use Rattle.language.specs.Histories.{Sheet, Draft, refusalOf, sheetIf, sheetOf, draftOf, Step, draftAfter, plainAfter, on, isGuard, marked, firstOpen, answered, readiness, clear, programOf, runIfOpen, bookRun, fullRun}
+use Rattle.language.specs.Drafts.{Sheet, Draft, refusalOf, sheetIf, sheetOf, draftOf, isGuard, marked, firstOpen, answered, readiness, clear}
+use Rattle.language.specs.Histories.{Step, draftAfter, plainAfter, on}
+use Rattle.language.specs.Entering.{programOf, runIfOpen, bookRun, fullRun}
 use Rattle.language.specs.Promise.{HadGood, Answers, Agrees, Kept, Promise}
 use Rattle.language.proofs.Comparisons.{none-some}
 use Rattle.language.proofs.Walks.{Counts, rules-numbered}

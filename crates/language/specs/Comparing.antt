@@ -1,10 +1,13 @@
 -- Comparisons as rows, the rows of their negations, and conditions: what they say of numbers, and which rows they come to.
 use mathlib.Core.Bool.{Bool, true, false, cond, _&&_}
 use mathlib.Core.List.{List, [], _∷_, _++_}
+use mathlib.Core.Path.{_≡_}
 use Prim.Native.Nat.{ℕ}
 use lib.IntN.{ℤ, pos, _+ℤ_, _-ℤ_, _*ℤ_}
 use lib.ListN.{getD}
 use Rattle.std.specs.Joined.{joined}
+use Rattle.std.specs.Options.{isSome}
+use Rattle.std.specs.shelf.Lists.{All}
 use Rattle.std.specs.declared.option.Option.{Option}
 use Rattle.std.specs.declared.option.Option.the-variants.{Some, None}
 use Rattle.rows.specs.declared.row.Row.{Row}
@@ -18,7 +21,7 @@ use Rattle.language.specs.Vocabulary.{holds}
 use Rattle.language.specs.Tree.{Atom, one, named, result, Item, Side, Condition}
 use Rattle.language.specs.Terms.{constant, zeroTerm, plus, minus, scaled, termAt, fitsTerm}
 
--- A row is none where it would lie outside its limits. Terms within their own limits always make one.
+-- A row is none where it would lie outside its limits; terms within their own limits always make one (`RowsFit`).
 
 -- t + k ≤ u
 unfoldable pub atMost : ℤ → Term → Term → Option Row
@@ -39,6 +42,9 @@ otherwise Less t u = rows LessOrEqual u t
 otherwise LessOrEqual t u = rows Less u t
 otherwise Equal t u = rows NotEqual t u
 otherwise NotEqual t u = rows Equal t u
+
+pub record RowsFit : Type 0 where
+  pub made : (c : Comparison) (t u : Term) → fitsTerm t ≡ true → fitsTerm u ≡ true → All (λ o. isSome o ≡ true) (rows c t u)
 
 -- what a side is worth, where names have these values and the result is r
 abbrev pub atomValue : List ℤ → ℤ → Atom → ℤ

@@ -16,7 +16,8 @@ use Rattle.language.specs.declared.sign.Operator.the-variants.{Sum, Product}
 use Rattle.language.specs.declared.sign.Comparison.the-variants.{Less, LessOrEqual}
 use Rattle.language.specs.Tree.{one, named, result, Item, Side, Condition, Site, Expr, num, name, calc, read, call, bind, test, put, claim, end, value, lent, aNumber, aList, Rule}
 use Rattle.language.specs.Walking.{Obligation}
-use Rattle.language.specs.Histories.{Sheet, sheetOf, Answer, refused, ended, astray, bookRun}
+use Rattle.language.specs.Drafts.{Sheet, sheetOf}
+use Rattle.language.specs.Entering.{Answer, refused, ended, astray, bookRun}
 
 abbrev pub site : ℕ → ℕ → Site
 site place list = record { place = place; number = 0; list = list }

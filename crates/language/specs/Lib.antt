@@ -5,6 +5,8 @@ pub mod Terms
 pub mod Comparing
 pub mod Walking
 pub mod Running
+pub mod Drafts
 pub mod Histories
+pub mod Entering
 pub mod Promise
 pub mod Examples

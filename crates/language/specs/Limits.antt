@@ -23,3 +23,7 @@ mostFuel = 1000000
 
 abbrev pub longestPart : ℕ
 longestPart = 4096
+
+-- the room that a prover is given
+abbrev pub longestProposal : ℕ
+longestProposal = 128

@@ -6,6 +6,7 @@ use mathlib.Core.Logic.{_↔_, _⊎_}
 use Prim.Native.Nat.{ℕ, _<_}
 use lib.Dec.{T}
 use lib.IntN.{ℤ, pos}
+use lib.ListN.{length}
 use Rattle.std.specs.shelf.Maps.{nth}
 use Rattle.std.specs.shelf.Lists.{All, kept-by}
 use Rattle.std.specs.declared.option.Option.the-variants.{Some, None}
@@ -20,7 +21,9 @@ use Rattle.language.specs.Tree.{Condition, Rule, ruleAt}
 use Rattle.language.specs.Comparing.{satisfied}
 use Rattle.language.specs.Walking.{Obligation}
 use Rattle.language.specs.Running.{Event, came, called, returned, Dropped, madeIn}
-use Rattle.language.specs.Histories.{Sheet, Draft, Book, sheetOf, draftOf, Domain, Prover, wide, Step, settling, ready, draftAfter, plainAfter, on, isGuard, marked, readiness, clear, Answer, refused, ended, astray, bookRun, fullRun}
+use Rattle.language.specs.Drafts.{Sheet, Draft, Book, sheetOf, draftOf, Domain, Prover, wide, isGuard, marked, readiness, clear}
+use Rattle.language.specs.Histories.{Step, settling, ready, draftAfter, plainAfter, on}
+use Rattle.language.specs.Entering.{Answer, refused, ended, astray, bookRun, fullRun}
 
 -- A settling is good if the number is an obligation's, the domain's range holds the sheet's, and the prover proposes for its
 -- question a certificate whose outcome in the domain is good.
@@ -35,7 +38,7 @@ pub record GoodSettling (sheet : Sheet) (n : ℕ) (d : Domain) (p : Prover) : Ty
 -- n had a good settling
 abbrev pub HadGood : Sheet → ℕ → List Step → Type 0
 HadGood sheet n [] = ⊥
-HadGood sheet n (settling m d p ∷ history) = ((m ≡ n) × GoodSettling sheet n d p) ⊎ HadGood sheet n history
+HadGood sheet n (settling m d l p b ∷ history) = ((m ≡ n) × GoodSettling sheet n d p) ⊎ HadGood sheet n history
 HadGood sheet n (ready ∷ history) = HadGood sheet n history
 
 -- if n is a guard's number, it is on the list
@@ -68,6 +71,8 @@ pub record SameEnd (list : List ℕ) (book full : End) (bookCells fullCells : Li
   pub value : book .value ≡ full .value
   pub place : book .place ≡ full .place
   pub steps : book .steps ≡ full .steps
+  pub bookChecks : book .checks ≡ length (madeIn bookLog)
+  pub fullChecks : full .checks ≡ length (madeIn fullLog)
   pub cells : bookCells ≡ fullCells
   pub made : madeIn bookLog ≡ kept-by (λ n. not (on list n)) (madeIn fullLog)
 

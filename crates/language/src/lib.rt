@@ -16,6 +16,7 @@ pub use limits::MOST_FUEL;
 pub use limits::MOST_OBLIGATIONS;
 pub use limits::TERM_LIMIT;
 pub use limits::most_depth;
+pub use limits::term_limit;
 pub use owed::Check;
 pub use owed::Duty;
 pub use part::Part;

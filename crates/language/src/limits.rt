@@ -1,5 +1,7 @@
 ghost use mathlib.Core.Path.{_≡_};
-ghost use Rattle.language.specs.Limits.{mostDepth};
+ghost use lib.IntN.{pos};
+ghost use Rattle.language.specs.Comparing.{RowsFit};
+ghost use Rattle.language.specs.Limits.{mostDepth, termLimit};
 ghost use Rattle.language.specs.Examples.{Worked};
 
 // A sheet with more obligations is refused.
@@ -21,4 +23,12 @@ pub fn most_depth() -> u32
     ensures worked { λ _. ⌜ Worked ⌝ }
 {
     MOST_DEPTH
+}
+
+// The limit of terms and sides. Two that keep it compare by rows that keep a row's limits.
+pub fn term_limit() -> i32
+    ensures value { λ r. ⌜ r ≡ pos termLimit ⌝ }
+    ensures rows { λ _. ⌜ RowsFit ⌝ }
+{
+    TERM_LIMIT
 }

@@ -1,5 +1,5 @@
 ghost use mathlib.Core.Path.{_≡_};
-ghost use Rattle.language.specs.Histories.{isGuard};
+ghost use Rattle.language.specs.Drafts.{isGuard};
 ghost use Rattle.language.specs.Promise.{Promise};
 use crate::owed::Duty;
 
