@@ -1,39 +1,28 @@
 -- Assignments: a value for a fresh quantity, and the values with which a rule's body begins.
-use mathlib.Core.Bool.{Bool, true, false, cond, _&&_}
-use mathlib.Core.List.{List, [], _∷_, _++_, map}
-use mathlib.Core.Logic.{⊎-elim}
-use mathlib.Core.Path.{_≡_, refl, sym, ap, ap₂, subst, _∙_}
+use mathlib.Core.Bool.{Bool, true, false, cond}
+use mathlib.Core.List.{List, [], _∷_, map}
+use mathlib.Core.Path.{_≡_, refl, sym, ap, ap₂, _∙_}
 use Prim.Native.Nat.{ℕ, zero, suc, _+_, _≤_, _<_}
 use native.Mathlib.Nat.{add-zero, zero-add}
 use native.Mathlib.Omega.{arith}
 use lib.Dec.{T, eqb}
-use lib.IntN.{ℤ, pos, _+ℤ_}
+use lib.IntN.{ℤ, pos}
 use lib.Signed.{leZ, leZ-yes, _≤ℤ_}
 use lib.ListN.{length, getD, drop}
 use Rattle.std.specs.Iters.{counting}
 use Rattle.std.specs.shelf.Lists.{All}
-use Rattle.std.specs.declared.option.Option.{Option}
-use Rattle.std.specs.declared.option.Option.the-variants.{Some, None}
 use Rattle.std.proofs.shelf.Signed.{ints}
-use Rattle.std.proofs.shelf.Tests.{eq-eqb, ne-eqb, cases-eq}
-use Rattle.rows.specs.declared.row.Row.{Row}
+use Rattle.std.proofs.shelf.Tests.{eq-eqb, ne-eqb}
 use Rattle.rows.specs.Meaning.{Assignment, Within}
 use Rattle.language.specs.declared.part.Part.{Part}
 use Rattle.language.specs.declared.term.Term.{Term}
 use Rattle.language.specs.Tree.{Param, aNumber, aList, atLists}
-use Rattle.language.specs.Terms.{zeroTerm, quantity, worth, termAt}
+use Rattle.language.specs.Terms.{zeroTerm, quantity, worth}
 use Rattle.language.specs.Comparing.{atMost}
 use Rattle.language.specs.Running.{inRange, lengthOf}
-use Rattle.language.proofs.Worths.{Agree, Stable, StableAll, stable-more, stable-constant, stable-quantity, worth-constant, worth-quantity}
+use Rattle.language.proofs.Tests.{both-left, both-right}
+use Rattle.language.proofs.Worths.{Agree, StableAll, stable-more, stable-constant, stable-quantity, worth-constant, worth-quantity}
 use Rattle.language.proofs.Comparisons.{IfMade, IfFirm, at-most-meets, firm-at-most}
-
-pub both-left : (a b : Bool) → T (a && b) → T a
-both-left true b t = tt
-both-left false b t = t
-
-pub both-right : (a b : Bool) → T (a && b) → T b
-both-right true b t = t
-both-right false b t = absurd t
 
 -- the same, with the value v for the quantity n
 unfoldable pub assign : Assignment → ℕ → ℤ → Assignment

@@ -1,18 +1,16 @@
 -- What the rows of comparisons and conditions say: they hold just where the comparison does, and mention only what its terms do.
 use mathlib.Core.Bool.{Bool, true, false, cond, not, _&&_}
-use mathlib.Core.List.{List, [], _∷_, _++_, map}
+use mathlib.Core.List.{List, [], _∷_, map}
 use mathlib.Core.Path.{_≡_, refl, sym, ap, ap₂, subst, subst₂, _∙_}
-use Prim.Native.Nat.{ℕ, zero, suc}
+use Prim.Native.Nat.{ℕ}
 use native.Mathlib.Omega.{arith}
 use lib.Dec.{T, not-T}
 use lib.IntN.{ℤ, pos, _+ℤ_, _-ℤ_, _*ℤ_}
-use lib.Signed.{leZ, ltZ, _≤ℤ_}
+use lib.Signed.{_≤ℤ_}
 use lib.ListN.{getD}
 use Rattle.std.specs.shelf.Lists.{All}
-use Rattle.std.specs.Joined.{joined}
 use Rattle.std.specs.declared.option.Option.{Option}
 use Rattle.std.specs.declared.option.Option.the-variants.{Some, None}
-use Rattle.std.proofs.shelf.Elements.{all-append}
 use Rattle.std.proofs.shelf.Signed.{ints}
 use Rattle.ints.specs.Sums.{sumTo}
 use Rattle.ints.specs.Tests.{eqZ}
@@ -26,9 +24,10 @@ use Rattle.language.specs.declared.term.Term.{Term}
 use Rattle.language.specs.declared.sign.Comparison.{Comparison}
 use Rattle.language.specs.declared.sign.Comparison.the-variants.{Less, LessOrEqual, Equal, NotEqual}
 use Rattle.language.specs.Vocabulary.{holds}
-use Rattle.language.specs.Tree.{Atom, one, named, result, Item, Side, Condition}
-use Rattle.language.specs.Terms.{constant, zeroTerm, plus, minus, scaled, worth, termAt, fitsTerm}
-use Rattle.language.specs.Comparing.{atMost, unequal, rows, otherwise, sideValue, satisfied, atomValue, atomTerm, sideTerm, conditionRows, conditionsRows}
+use Rattle.language.specs.Tree.{Atom, one, named, result, Side, Condition}
+use Rattle.language.specs.Terms.{constant, minus, scaled, worth, fitsTerm}
+use Rattle.language.specs.Comparing.{atMost, unequal, rows, otherwise, sideValue, satisfied, atomValue, atomTerm, sideTerm, conditionRows}
+use Rattle.language.proofs.Tests.{none-some}
 use Rattle.language.proofs.Worths.{worth-constant, worth-plus, worth-minus, worth-scaled, worths-at, Agree, Stable, StableAll, stable-constant, stable-plus, stable-scaled}
 
 -- the sum of a row that was made of two terms
@@ -90,9 +89,6 @@ Firm n r = (q p : Assignment) → Agree n q p → Meets q r → Meets p r
 
 abbrev pub IfFirm : ℕ → Option Row → Type 0
 IfFirm n o = (r : Row) → o ≡ Some r → Firm n r
-
-pub none-some : {A : Type 0} (x : A) → None ≡ Some x → ⊥
-none-some x e = let no : _≡_ {A = ℕ} 0 1 = cc in let bad : ⊥ = omega arith in bad
 
 not-not : (b : Bool) → T (not (not b)) → T b
 not-not true h = tt

@@ -1,27 +1,25 @@
 -- What fine notes give: no limit was met, guards hold, and settled checks pass.
-use mathlib.Core.Bool.{Bool, true, false, cond, _&&_}
+use mathlib.Core.Bool.{Bool, true, false}
 use mathlib.Core.List.{List, [], _∷_, _++_, map}
-use mathlib.Core.Path.{_≡_, refl, sym, ap, subst, _∙_}
-use Prim.Native.Nat.{ℕ, zero, suc, _<_}
+use mathlib.Core.Path.{_≡_, refl}
+use Prim.Native.Nat.{ℕ, suc, _<_}
 use native.Mathlib.Omega.{arith}
 use lib.Dec.{T, ltb, ltb→lt}
-use lib.IntN.{ℤ, pos, _+ℤ_}
+use lib.IntN.{ℤ, pos}
 use lib.Signed.{leZ, ltZ, _≤ℤ_}
 use Rattle.std.specs.shelf.Lists.{All}
-use Rattle.std.specs.Joined.{joined}
 use Rattle.std.specs.declared.option.Option.{Option}
 use Rattle.std.specs.declared.option.Option.the-variants.{Some, None}
 use Rattle.std.proofs.shelf.Signed.{ints}
 use Rattle.rows.specs.declared.row.Row.{Row}
 use Rattle.rows.specs.Meaning.{Assignment, Within, MeetsAll, Follows}
 use Rattle.language.specs.declared.term.Term.{Term}
-use Rattle.language.specs.declared.owed.Duty.{Duty}
 use Rattle.language.specs.declared.owed.Duty.the-variants.{Below, Above, Guard}
 use Rattle.language.specs.declared.refusal.Refusal.{Refusal}
 use Rattle.language.specs.Tree.{Condition, Site}
 use Rattle.language.specs.Terms.{zeroTerm, worth}
 use Rattle.language.specs.Comparing.{atMost, satisfied, conditionRows, conditionsRows}
-use Rattle.language.specs.Walking.{Obligation, Note, owes, fault, Stand, limit, owe, oweAll, oweChecks, fresh, freshWith, orFresh, Mode, infer, check, join}
+use Rattle.language.specs.Walking.{Note, owes, fault, Stand, limit, owe, oweAll, oweChecks, fresh, freshWith, orFresh, Mode, infer, check, join}
 use Rattle.language.specs.Running.{Dropped}
 use Rattle.language.specs.Drafts.{isGuard}
 use Rattle.language.proofs.Worths.{worth-constant}

@@ -1,31 +1,30 @@
 -- The entry of a run: what it tests is what a rule is entered with, and the two runs of an open book agree.
-use mathlib.Core.Bool.{Bool, true, false, cond, not, _&&_}
-use mathlib.Core.List.{List, [], _∷_, _++_, map}
-use mathlib.Core.Path.{_≡_, refl, sym, ap, ap₂, subst, _∙_}
-use Prim.Native.Nat.{ℕ, zero, suc, _+_, _-_, _≤_, _<_}
+use mathlib.Core.Bool.{Bool, true, false, cond, not}
+use mathlib.Core.List.{List, [], _∷_, map}
+use mathlib.Core.Path.{_≡_, refl, sym, ap, subst, _∙_}
+use Prim.Native.Nat.{ℕ, zero, suc, _+_}
 use native.Mathlib.Omega.{arith}
-use lib.Dec.{T, ltb, leb, leb→le, ltb→lt}
+use lib.Dec.{T, ltb, leb, leb→le}
 use lib.IntN.{ℤ, pos}
-use lib.Signed.{leZ, leZ-yes, _≤ℤ_}
-use lib.ListN.{length, getD}
+use lib.Signed.{leZ, _≤ℤ_}
+use lib.ListN.{length}
 use Rattle.std.specs.shelf.Lists.{All, kept-by}
 use Rattle.std.specs.declared.option.Option.{Option}
 use Rattle.std.specs.declared.option.Option.the-variants.{Some, None}
 use Rattle.std.proofs.shelf.Elements.{all-weaker}
 use Rattle.std.proofs.shelf.Signed.{ints}
+use Rattle.std.proofs.shelf.Tests.{true≢false, false≢true}
 use Rattle.language.specs.declared.part.Part.{Part}
-use Rattle.language.specs.declared.ending.Ending.{Ending}
 use Rattle.language.specs.Tree.{Condition, Param, aNumber, aList, Rule, ruleAt, atLists}
 use Rattle.language.specs.Comparing.{satisfied}
-use Rattle.language.specs.Running.{Event, came, called, returned, State, Outcome, done, stop, wild, Ran, inRange, Dropped, noPart, partAt, lengthOf, Program, enter, run, madeIn}
+use Rattle.language.specs.Running.{Event, came, called, returned, Outcome, done, stop, wild, Ran, inRange, Dropped, partAt, lengthOf, Program, run, madeIn}
 use Rattle.language.specs.Drafts.{Sheet}
 use Rattle.language.specs.Histories.{on}
-use Rattle.language.specs.Entering.{gathered, every, partFits, allowed, firstBroken, Answer, refused, ended, astray, endOf, programOf, runRule, runIfMet, runIfAllowed, runIfCallable, valuesFor}
-use Rattle.language.specs.Promise.{Sound, DropsListed, SameEnd, Agrees}
-use Rattle.language.proofs.Comparisons.{none-some}
-use Rattle.language.proofs.Assigning.{both-left, both-right}
-use Rattle.language.proofs.Same.{asBook, full, Ends, Both, Same}
-use Rattle.language.proofs.Induction.{Good, PartOk, Inputs, Gives, BodyOk, run-sound, enter-sound}
+use Rattle.language.specs.Entering.{gathered, every, partFits, allowed, firstBroken, endOf, programOf, runRule, runIfMet, runIfAllowed, runIfCallable, valuesFor}
+use Rattle.language.specs.Promise.{Sound, DropsListed, Agrees}
+use Rattle.language.proofs.Same.{asBook, full, Ends, Both}
+use Rattle.language.proofs.Induction.{Good, PartOk, Inputs, BodyOk, run-sound, enter-sound}
+use Rattle.language.proofs.Tests.{both-from, both-left, both-right, cond-some, none-some}
 
 every-all : {A : Type 0} (p : A → Bool) (xs : List A) → T (every p xs) → All (λ x. T (p x)) xs
 unfolding every
@@ -66,12 +65,8 @@ gathered-is low high (aList ∷ qs) xs (p ∷ ps) vs e = go (gathered qs xs ps) 
 part-ok : (R : List Rule) (P : Program) (S : Dropped) (size : ℕ) → P .low ≤ℤ pos 0 → (p : Part) → T (partFits (P .high) size p) → PartOk R P S size p
 part-ok R P S size z p h = record {
   inside = leb→le (p .start + p .length) size (both-left (leb (p .start + p .length) size) _ h);
-  fits = both (leZ (P .low) (lengthOf p)) _ (let l : P .low ≤ℤ lengthOf p = omega (arith, ints) in l .le) (both-right (leb (p .length) 4096) _ (both-right (leb (p .start + p .length) size) _ h));
+  fits = both-from (leZ (P .low) (lengthOf p)) _ (let l : P .low ≤ℤ lengthOf p = omega (arith, ints) in l .le) (both-right (leb (p .length) 4096) _ (both-right (leb (p .start + p .length) size) _ h));
 }
-  where
-    both : (a b : Bool) → T a → T b → T (a && b)
-    both true b h k = k
-    both false b h k = absurd h
 
 met-needs : (k : ℕ) (xs : List ℤ) (cs : List Condition) → firstBroken k xs cs ≡ None → All (λ c. T (satisfied xs (pos 0) c)) cs
 unfolding firstBroken
@@ -82,25 +77,21 @@ met-needs k xs (c ∷ cs) e = go (satisfied xs (pos 0) c) (met-needs (suc k) xs 
     go true f e = (tt, f e)
     go false f e = absurd (none-some k (sym e))
 
-found-values : (b : Bool) (o : Option (List ℤ)) (vs : List ℤ) → cond b o None ≡ Some vs → T b × (o ≡ Some vs)
-found-values true o vs e = (tt, e)
-found-values false o vs e = absurd (none-some vs e)
-
 -- a run that drops S, which the list has, and the full run
 module _ (sheet : Sheet) (list : List ℕ) (S : Dropped) (same : (n : ℕ) → S n ≡ on list n) where
   made-one : (n : ℕ) (passes : Bool) (es : List Event) (b c : Bool) → b ≡ c → madeIn (came n (not b) passes ∷ es) ≡ cond (not c) (n ∷ madeIn es) (madeIn es)
   unfolding madeIn
   made-one n passes es true true e = refl
   made-one n passes es false false e = refl
-  made-one n passes es true false e = let no : _≡_ {A = ℕ} 0 1 = cc in let bad : ⊥ = omega arith in absurd bad
-  made-one n passes es false true e = let no : _≡_ {A = ℕ} 0 1 = cc in let bad : ⊥ = omega arith in absurd bad
+  made-one n passes es true false e = absurd (true≢false e)
+  made-one n passes es false true e = absurd (false≢true e)
 
   made-kept : (log : List Event) → All (Good (sheet .rules) S) log → madeIn (map (asBook S) log) ≡ kept-by (λ n. not (on list n)) (madeIn log)
   unfolding madeIn
   made-kept [] h = refl
   made-kept (came n true passes ∷ es) h =
       made-one n passes (map (asBook S) es) (S n) (on list n) (same n) ∙ ap (λ (l : List ℕ). cond (not (on list n)) (n ∷ l) l) (made-kept es (h .1))
-  made-kept (came n false passes ∷ es) h = let no : _≡_ {A = ℕ} 0 1 = cc (h .0 .0) in let bad : ⊥ = omega arith in absurd bad
+  made-kept (came n false passes ∷ es) h = absurd (false≢true (h .0 .0))
   made-kept (called f xs ∷ es) h = made-kept es (h .1)
   made-kept (returned f xs v ∷ es) h = made-kept es (h .1)
 
@@ -141,7 +132,7 @@ module _ (sheet : Sheet) (list : List ℕ) (S : Dropped) (same : (n : ℕ) → S
         entered : (vs : List ℤ) → valuesFor (sheet .rules) f xs ps ≡ Some vs → T (allowed (sheet .low) (sheet .high) fuel xs ps cells)
             → firstBroken 0 vs (ruleAt (sheet .rules) f .needs) ≡ None → Inputs (sheet .rules) (programOf sheet) S (length cells) f vs ps
         entered vs e a b =
-            let w = found-values (ltb f (length (sheet .rules))) (gathered (ruleAt (sheet .rules) f .params) xs ps) vs e in
+            let w = cond-some (ltb f (length (sheet .rules))) (gathered (ruleAt (sheet .rules) f .params) xs ps) vs e in
             let g = gathered-is (sheet .low) (sheet .high) (ruleAt (sheet .rules) f .params) xs ps vs (w .1) in
             let a₁ = both-right (leb fuel 1000000) _ a in
             let a₂ = both-right (every (inRange (sheet .low) (sheet .high)) xs) _ a₁ in

@@ -1,5 +1,5 @@
 -- The worked sheets, by computing.
-use mathlib.Core.Path.{_≡_, refl}
+use mathlib.Core.Path.{refl}
 use Rattle.ints.specs.Tests.{allBelow}
 use Rattle.rows.specs.Limits.{allSmall}
 use Rattle.rows.specs.Rows.{rowOf}

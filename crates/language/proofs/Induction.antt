@@ -1,5 +1,5 @@
 -- The induction: a book's run and its full run come to the same, and each value is what the walk's term is worth.
-use mathlib.Core.Bool.{Bool, true, false, cond, not, _&&_}
+use mathlib.Core.Bool.{true, not}
 use mathlib.Core.List.{List, [], _∷_, _++_, map}
 use mathlib.Core.Path.{_≡_, refl, sym, ap, ap₂, subst, subst₂, _∙_}
 use Prim.Native.Nat.{ℕ, zero, suc, _+_, _≤_, _<_}
@@ -21,19 +21,19 @@ use Rattle.language.specs.declared.term.Term.{Term}
 use Rattle.language.specs.declared.ending.Ending.the-variants.{Deep}
 use Rattle.language.specs.declared.refusal.Refusal.the-variants.{Name}
 use Rattle.language.specs.declared.sign.Operator.{Operator}
-use Rattle.language.specs.declared.sign.Comparison.{Comparison}
 use Rattle.language.specs.Vocabulary.{reckoned, holds}
-use Rattle.language.specs.Tree.{Condition, Site, Expr, num, name, calc, read, call, bind, test, put, claim, Args, end, value, lent, placeOf, noExpr, Param, aNumber, aList, Rule, ruleAt, atLists, shape, lentOf}
-use Rattle.language.specs.Terms.{constant, zeroTerm, quantity, worth, termAt, worked}
+use Rattle.language.specs.Tree.{Condition, Site, Expr, num, name, calc, read, call, bind, test, put, claim, Args, end, value, lent, noExpr, Param, aNumber, aList, Rule, ruleAt, atLists, shape, lentOf}
+use Rattle.language.specs.Terms.{zeroTerm, quantity, worth, termAt, worked}
 use Rattle.language.specs.Comparing.{atMost, satisfied, rows, otherwise, conditionsRows}
-use Rattle.language.specs.Walking.{Note, Stand, Scope, Found, Got, Gots, limit, oweAll, assume, assumeAll, oweChecks, numbered, counted, knowing, binding, fresh, freshWith, orFresh, Mode, infer, check, finish, join, sameParams, callable, walk, walks, startNames, startScope, startKnown, startStand, walkBody}
-use Rattle.language.specs.Running.{Event, came, called, returned, Run, give, emit, _>>=_, spend, inRange, Dropped, touch, load, store, Frame, valueAt, noPart, partAt, lengthOf, holding, Program, fit, Eval, enter, values, node, run}
-use Rattle.language.proofs.Worths.{worth-constant, worth-quantity, worked-worth, worths-at, worths-move, Agree, agree-less, agree-trans, Stable, StableAll, stable-more, stables-more, stable-constant}
+use Rattle.language.specs.Walking.{Note, Stand, Scope, Found, limit, oweAll, assume, oweChecks, numbered, counted, knowing, binding, fresh, freshWith, orFresh, Mode, infer, check, finish, join, sameParams, callable, walk, walks, startNames, startScope, startKnown, startStand, walkBody}
+use Rattle.language.specs.Running.{Event, came, called, returned, Run, _>>=_, inRange, Dropped, touch, Frame, partAt, lengthOf, holding, Program, Eval, enter, values, node, run}
+use Rattle.language.proofs.Worths.{worth-constant, worth-quantity, worked-worth, worths-at, worths-move, Agree, agree-less, agree-trans, Stable, StableAll, stable-more, stables-more}
 use Rattle.language.proofs.Comparisons.{Firm, rows-from, otherwise-from, rows-firm, otherwise-firm}
-use Rattle.language.proofs.Walks.{meets-push, facts-move, assume-meets, assume-firm, assumeAll-meets, assumeAll-firm, OkStand, Ok, Oks, found, OkScope, scope-more, scope-binding, walk-ok, walks-ok, start-scope, start-firm}
+use Rattle.language.proofs.Walks.{facts-move, assume-meets, assume-firm, assumeAll-meets, Ok, found, OkScope, scope-more, scope-binding, walk-ok, walks-ok, start-scope, start-firm}
 use Rattle.language.proofs.Same.{Same, full, same-give, same-halt, same-emit, same-load, same-store, same-spend, same-bind, same-cond, same-fit, same-touch, same-post}
 use Rattle.language.proofs.Duties.{all-left, all-right, Fine, limit-met, fresh-notes, fresh-room, with-fresh, or-fresh-notes, join-notes, conditions-hold, Passing, checks-pass}
-use Rattle.language.proofs.Assigning.{both-left, both-right, assign, assign-same, assign-agree, assign-within, valued, valued-within, names-worth, map-atLists, lengths-made}
+use Rattle.language.proofs.Assigning.{assign, assign-same, assign-agree, assign-within, valued, valued-within, names-worth, map-atLists, lengths-made}
+use Rattle.language.proofs.Tests.{both-left, both-right}
 
 same-params : (ps qs : List Param) → T (sameParams ps qs) → ps ≡ qs
 unfolding sameParams

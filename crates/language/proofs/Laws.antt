@@ -1,10 +1,9 @@
 -- How notes and runs are put together, step by step.
 use mathlib.Core.Bool.{Bool, true, false, cond}
 use mathlib.Core.List.{List, [], _∷_, _++_}
-use mathlib.Core.Path.{_≡_, refl, sym, ap, subst, _∙_}
+use mathlib.Core.Path.{_≡_, refl, sym, ap}
 use Prim.Native.Nat.{ℕ}
 use lib.Dec.{ltb}
-use Rattle.std.specs.declared.option.Option.{Option}
 use Rattle.std.specs.declared.option.Option.the-variants.{Some, None}
 use Rattle.language.specs.declared.ending.Ending.{Ending}
 use Rattle.language.specs.declared.refusal.Refusal.{Refusal}
@@ -12,7 +11,7 @@ use Rattle.language.specs.declared.refusal.Refusal.the-variants.{Full}
 use Rattle.language.specs.Limits.{mostObligations}
 use Rattle.language.specs.Walking.{Note, owes, fault, firstFault}
 use Rattle.language.specs.Running.{Event, came, called, returned, State, Outcome, done, stop, wild, Ran, Run, after, _>>=_, madeIn}
-use Rattle.language.proofs.Comparisons.{none-some}
+use Rattle.language.proofs.Tests.{none-some}
 
 -- the first fault of notes is that of the first part, or else of the rest
 pub fault-first : (ns bs : List Note) (r : Refusal) → firstFault ns ≡ Some r → firstFault (ns ++ bs) ≡ Some r

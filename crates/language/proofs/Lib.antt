@@ -1,3 +1,4 @@
+pub mod Tests
 pub mod Examples
 pub mod Worths
 pub mod Comparisons

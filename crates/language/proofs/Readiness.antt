@@ -1,31 +1,30 @@
 -- Ready's answer, and that the notes of a sheet that was taken are fine once it is yes.
 use mathlib.Core.Bool.{Bool, true, false, cond, not, _&&_}
-use mathlib.Core.List.{List, [], _∷_, _++_, map}
+use mathlib.Core.List.{List, [], _∷_, _++_}
 use mathlib.Core.Path.{_≡_, refl, sym, ap, subst, _∙_}
-use Prim.Native.Nat.{ℕ, zero, suc, _+_, _≤_, _<_}
+use Prim.Native.Nat.{ℕ, zero, suc, _+_, _<_}
 use native.Mathlib.Nat.{zero-add, add-zero, add-suc, suc-add}
 use native.Mathlib.Omega.{arith}
 use lib.Dec.{T, ltb}
-use lib.IntN.{ℤ, pos}
+use lib.IntN.{ℤ}
 use lib.ListN.{length, getD}
 use Rattle.std.specs.shelf.Lists.{All}
 use Rattle.std.specs.shelf.Maps.{nth}
 use Rattle.std.specs.declared.option.Option.{Option}
 use Rattle.std.specs.declared.option.Option.the-variants.{Some, None}
-use Rattle.std.specs.declared.result.Result.the-variants.{Ok, Err}
+use Rattle.std.proofs.shelf.Tests.{true≢false, false≢true}
 use Rattle.rows.specs.Meaning.{Follows}
 use Rattle.language.specs.declared.refusal.Refusal.{Refusal}
 use Rattle.language.specs.declared.refusal.Refusal.the-variants.{Closed, Full}
 use Rattle.language.specs.Tree.{Expr, Rule, ruleAt, noExpr}
-use Rattle.language.specs.Walking.{Obligation, Note, owes, fault, Got, startKnown, walkBody, walkRules, obligationsOf, firstFault}
-use Rattle.language.specs.Running.{Dropped, Program}
+use Rattle.language.specs.Walking.{Obligation, Note, owes, fault, startKnown, walkBody, walkRules, obligationsOf, firstFault}
+use Rattle.language.specs.Running.{Dropped}
 use Rattle.language.specs.Drafts.{Sheet, isGuard, firstOpen, answered}
 use Rattle.language.specs.Histories.{on}
-use Rattle.language.specs.Promise.{GuardOn, Answers}
-use Rattle.language.proofs.Comparisons.{none-some}
+use Rattle.language.specs.Promise.{Answers}
 use Rattle.language.proofs.Walks.{Counts}
-use Rattle.language.proofs.Assigning.{both-left, both-right}
 use Rattle.language.proofs.Duties.{all-left, all-right, Fine}
+use Rattle.language.proofs.Tests.{cond-none, none-some}
 
 -- what the first open guard from k on says
 pub record Opened (S : Dropped) (k : ℕ) (os : List Obligation) (r : Refusal) : Type 0 where
@@ -43,13 +42,13 @@ Closes S k os (Some r) = Opened S k os r
 
 settled-or-not : (g s : Bool) → (g && not s) ≡ false → T g → T s
 settled-or-not true true e h = tt
-settled-or-not true false e h = let no : _≡_ {A = ℕ} 0 1 = cc in let bad : ⊥ = omega arith in absurd bad
+settled-or-not true false e h = absurd (true≢false e)
 settled-or-not false s e h = absurd h
 
 open-at : (g s : Bool) → (g && not s) ≡ true → T g × T (not s)
-open-at true true e = let no : _≡_ {A = ℕ} 0 1 = cc in let bad : ⊥ = omega arith in absurd bad
+open-at true true e = absurd (false≢true e)
 open-at true false e = (tt, tt)
-open-at false s e = let no : _≡_ {A = ℕ} 0 1 = cc in let bad : ⊥ = omega arith in absurd bad
+open-at false s e = absurd (false≢true e)
 
 closes : (S : Dropped) (k : ℕ) (os : List Obligation) → Closes S k os (firstOpen k os S)
 unfolding firstOpen
@@ -120,10 +119,6 @@ answers sheet list S same = go (firstOpen 0 (sheet .obligations) S) (closes S 0 
     )
 
 -- notes without a fault, whose obligations are fine one by one
-cond-none : (b : Bool) (x : Option Refusal) (r : Refusal) → cond b x (Some r) ≡ None → x ≡ None
-cond-none true x r e = e
-cond-none false x r e = absurd (none-some r (sym e))
-
 pub fine-notes : (low high : ℤ) (S : Dropped) (k m : ℕ) (ns : List Note) → Counts k ns m → firstFault ns ≡ None
     → ((i : ℕ) (o : Obligation) → nth (obligationsOf ns) i ≡ Some o → (T (isGuard (o .duty)) → T (S (i + k))) × (T (S (i + k)) → Follows low high (o .facts) (o .goal)))
     → All (Fine low high S) ns
@@ -134,7 +129,7 @@ fine-notes low high S k m (owes o work ∷ ns) c e f =
     let x = f 0 o refl in
     let same : 0 + k ≡ o .number = zero-add k ∙ sym (c .0) in (
       (λ g. subst (λ (i : ℕ). T (S i)) same (x .0 g), λ t. x .1 (subst (λ (i : ℕ). T (S i)) (sym same) t)),
-      fine-notes low high S (suc k) m ns (c .1) (cond-none (ltb (o .number) 128) (firstFault ns) (Full work) e)
+      fine-notes low high S (suc k) m ns (c .1) (cond-none (ltb (o .number) 128) (firstFault ns) (Full work) e .1)
           (λ i p d. subst (λ (j : ℕ). (T (isGuard (p .duty)) → T (S j)) × (T (S j) → Follows low high (p .facts) (p .goal))) (suc-add i k ∙ sym (add-suc i k)) (f (suc i) p d)),
     )
 

@@ -1,22 +1,24 @@
 -- The run alone: a book's run and its full run from one state, which come to the same and differ in the checks made alone.
-use mathlib.Core.Bool.{Bool, true, false, cond, not, _||_, _&&_}
+use mathlib.Core.Bool.{Bool, true, false, cond, not, _||_}
 use mathlib.Core.List.{List, [], _∷_, _++_, map}
 use mathlib.Core.Path.{_≡_, refl, sym, ap, ap₂, subst, _∙_}
 use Prim.Native.Nat.{ℕ, zero, suc, _+_, _≤_, _<_}
 use native.Mathlib.Omega.{arith}
-use lib.Dec.{T, ltb, ltb→lt}
+use lib.Dec.{T, ltb→lt}
 use lib.IntN.{ℤ, pos, negsuc}
 use lib.Signed.{leZ, ltZ}
-use lib.ListN.{length, set}
+use lib.ListN.{length}
 use Rattle.std.specs.shelf.Lists.{All}
-use Rattle.std.specs.declared.option.Option.{Option}
 use Rattle.std.specs.declared.option.Option.the-variants.{Some, None}
 use Rattle.std.proofs.shelf.Elements.{all-append}
 use Rattle.std.proofs.shelf.Lists.{map-append, length-set}
 use Rattle.std.proofs.shelf.Tests.{lt-ltb}
 use Rattle.language.specs.declared.part.Part.{Part}
 use Rattle.language.specs.declared.ending.Ending.{Ending}
-use Rattle.language.specs.declared.ending.Ending.the-variants.{Spent, Range, Below, Above}
+use Rattle.language.specs.declared.ending.Ending.the-variants.{Spent, Range}
+use Rattle.language.specs.declared.owed.Check.{Check}
+use Rattle.language.specs.declared.owed.Check.the-variants.{Below, Above}
+use Rattle.language.specs.Vocabulary.{checkEnding}
 use Rattle.language.specs.Tree.{Site}
 use Rattle.language.specs.Running.{Event, came, called, returned, State, Outcome, done, stop, wild, Ran, Run, quiet, give, halt, emit, after, _>>=_, spend, inRange, Dropped, check, cellOf, inside, load, store, touch, Program, fit}
 
@@ -109,15 +111,15 @@ module _ (S : Dropped) (N : ℕ) (G : Event → Type 0) where
   same-fit program place P v f = same-cond P (inRange (program .low) (program .high) v) _ _ _ _ (λ t. same-give P v (f t)) (λ t. same-halt P Range place)
 
   -- a check that passes where it is dropped
-  pub same-check : (kind : Ending) (place n : ℕ) (b : Bool) → G (came n true b) → (T (S n) → T b) → Same (λ x. T b) (check S kind place n b) (check full kind place n b)
+  pub same-check : (kind : Check) (place n : ℕ) (b : Bool) → G (came n true b) → (T (S n) → T b) → Same (λ x. T b) (check S kind place n b) (check full kind place n b)
   unfolding check
   same-check kind place n b g h = same-bind _ _ _ _ _ _ (same-emit (came n true b) (came n (not (S n)) b) refl g) (λ x y. go (S n) b h)
     where
-      go : (d b : Bool) → (T d → T b) → Same (λ x. T b) (cond (d || b) (give {A = Unit {0}} tt) (halt kind place)) (cond b (give tt) (halt kind place))
+      go : (d b : Bool) → (T d → T b) → Same (λ x. T b) (cond (d || b) (give {A = Unit {0}} tt) (halt (checkEnding kind) place)) (cond b (give tt) (halt (checkEnding kind) place))
       go true true h = same-give _ tt tt
       go false true h = same-give _ tt tt
       go true false h = absurd (h tt)
-      go false false h = same-halt _ kind place
+      go false false h = same-halt _ (checkEnding kind) place
 
   same-found : (a : ℕ) → a < N → Same (λ c. Unit {0}) (inside (Some a)) (inside (Some a))
   unfolding inside

@@ -1,42 +1,36 @@
 -- Histories: the plain list has what had a good settling, the draft marks just that, and what is on the list follows.
-use mathlib.Core.Bool.{Bool, true, false, cond, not, _&&_, _||_}
-use mathlib.Core.List.{List, [], _∷_, _++_, map}
+use mathlib.Core.Bool.{Bool, true, false, cond, _&&_, _||_}
+use mathlib.Core.List.{List, [], _∷_}
 use mathlib.Core.Logic.{_⊎_, inl, inr, ⊎-elim}
-use mathlib.Core.Path.{_≡_, refl, sym, ap, ap₂, subst, _∙_}
-use Prim.Native.Nat.{ℕ, zero, suc, _+_, _≤_, _<_}
-use native.Mathlib.Nat.{zero-add}
+use mathlib.Core.Path.{_≡_, refl, sym, ap, subst, _∙_}
+use Prim.Native.Nat.{ℕ, zero, suc, _<_}
 use native.Mathlib.Omega.{arith}
 use lib.Dec.{T, eqb, eqb→eq, eqb-refl}
-use lib.IntN.{ℤ, pos}
 use lib.Signed.{leZ, leZ-yes, _≤ℤ_}
-use lib.ListN.{length, getD, set, replicate}
+use lib.ListN.{length, set, replicate}
 use Rattle.std.specs.shelf.Maps.{nth}
 use Rattle.std.specs.declared.option.Option.{Option}
 use Rattle.std.specs.declared.option.Option.the-variants.{Some, None}
-use Rattle.std.specs.declared.result.Result.{Result}
+use Rattle.std.specs.Results.{isOk}
 use Rattle.std.specs.declared.result.Result.the-variants.{Ok, Err}
 use Rattle.std.proofs.shelf.Lists.{getD-set-same, getD-set-other, length-set, length-replicate}
 use Rattle.std.proofs.shelf.Signed.{ints}
 use Rattle.std.proofs.shelf.Tests.{cases-eq, eq-eqb, ne-eqb}
-use Rattle.rows.specs.declared.row.Row.{Row}
-use Rattle.rows.specs.Meaning.{Assignment, Within, MeetsAll, Meets, Follows}
+use Rattle.rows.specs.Meaning.{Follows}
 use Rattle.domains.specs.Faults.{Outcome, Good}
-use Rattle.language.specs.declared.refusal.Refusal.{Refusal}
-use Rattle.language.specs.declared.refusal.Refusal.the-variants.{Closed, Narrow}
+use Rattle.language.specs.declared.refusal.Refusal.the-variants.{Narrow}
 use Rattle.language.specs.Walking.{Obligation}
-use Rattle.language.specs.Running.{Dropped}
-use Rattle.language.specs.Drafts.{Sheet, Draft, draftOf, Domain, Prover, wide, judged, verified, asked, settle, markIf, settled, isGuard, marked, firstOpen, answered, readiness}
-use Rattle.language.specs.Histories.{Step, settling, ready, draftAfter, isGood, goodProposal, goodFor, good, plainAfter, on}
-use Rattle.language.specs.Promise.{GoodSettling, HadGood, GuardOn, Answers}
-use Rattle.language.proofs.Comparisons.{none-some}
-use Rattle.language.proofs.Assigning.{both-left, both-right}
+use Rattle.language.specs.Drafts.{Sheet, Draft, draftOf, Domain, Prover, wide, judged, verified, asked, settle, markIf, settled, marked}
+use Rattle.language.specs.Histories.{Step, settling, ready, draftAfter, goodProposal, goodFor, good, plainAfter, on}
+use Rattle.language.specs.Promise.{GoodSettling, HadGood}
+use Rattle.language.proofs.Tests.{both-from, both-left, both-right, none-some}
 
 -- a settling is good by its test just where it is good
 good-proposal : (d : Domain) (o : Obligation) (c : Option (List ℕ)) → T (goodProposal d o c) → (x : List ℕ) × (c ≡ Some x) × Good (d .outcome (o .facts) (o .goal) x)
 good-proposal d o None h = absurd h
 good-proposal d o (Some x) h = (x, refl, go (d .outcome (o .facts) (o .goal) x) h)
   where
-    go : (r : Outcome) → T (isGood r) → Good r
+    go : (r : Outcome) → T (isOk r) → Good r
     go (Ok u) h = tt
     go (Err f) h = h
 
@@ -53,15 +47,11 @@ module _ (sheet : Sheet) where
   good-from : (n : ℕ) (d : Domain) (p : Prover) → GoodSettling sheet n d p → T (good sheet n d p)
   good-from n d p g =
       subst (λ (o : Option Obligation). T (goodFor sheet d p o)) (sym (g .is))
-      (both (wide sheet d) _ (g .holds-range) (subst (λ (c : Option (List ℕ)). T (goodProposal d (g .obligation) c)) (sym (g .proposed)) (go (d .outcome (g .obligation .facts) (g .obligation .goal) (g .certificate)) (g .outcome-good))))
+      (both-from (wide sheet d) _ (g .holds-range) (subst (λ (c : Option (List ℕ)). T (goodProposal d (g .obligation) c)) (sym (g .proposed)) (go (d .outcome (g .obligation .facts) (g .obligation .goal) (g .certificate)) (g .outcome-good))))
     where
-      go : (r : Outcome) → Good r → T (isGood r)
+      go : (r : Outcome) → Good r → T (isOk r)
       go (Ok u) h = tt
       go (Err f) h = h
-
-      both : (a b : Bool) → T a → T b → T (a && b)
-      both true b h k = k
-      both false b h k = absurd h
 
   -- what is on the plain list
   on-head : (m : ℕ) (list : List ℕ) → T (on (m ∷ list) m)
@@ -134,7 +124,7 @@ module _ (sheet : Sheet) where
   judged-mark d p n marks None = refl
   judged-mark d p n marks (Some o) = go (wide sheet d) (p .proposes (o .facts) (o .goal))
     where
-      last : (r : Outcome) → markIf (judged (o .place) r) n marks ≡ cond (isGood r) (set marks n true) marks
+      last : (r : Outcome) → markIf (judged (o .place) r) n marks ≡ cond (isOk r) (set marks n true) marks
       last (Ok u) = refl
       last (Err f) = refl
 

@@ -1,9 +1,9 @@
 -- The promise, put together: a sheet that is taken, a history, and the runs of its book.
-use mathlib.Core.Bool.{Bool, true, false, cond, _&&_}
-use mathlib.Core.List.{List, [], _∷_}
-use mathlib.Core.Logic.{_⊎_, inl, inr, ⊎-elim}
+use mathlib.Core.Bool.{_&&_}
+use mathlib.Core.List.{List, []}
+use mathlib.Core.Logic.{⊎-elim}
 use mathlib.Core.Path.{_≡_, refl, sym, ap, subst, _∙_}
-use Prim.Native.Nat.{ℕ, zero, suc, _+_, _<_}
+use Prim.Native.Nat.{ℕ}
 use native.Mathlib.Nat.{add-zero}
 use native.Mathlib.Omega.{arith}
 use lib.Dec.{T, ltb, ltb→lt}
@@ -14,8 +14,7 @@ use Rattle.std.specs.shelf.Lists.{All}
 use Rattle.std.specs.shelf.Maps.{nth}
 use Rattle.std.specs.declared.option.Option.{Option}
 use Rattle.std.specs.declared.option.Option.the-variants.{Some, None}
-use Rattle.std.specs.declared.result.Result.{Result}
-use Rattle.std.specs.declared.result.Result.the-variants.{Ok, Err}
+use Rattle.std.specs.declared.result.Result.the-variants.{Ok}
 use Rattle.rows.specs.Meaning.{Follows}
 use Rattle.language.specs.declared.part.Part.{Part}
 use Rattle.language.specs.declared.refusal.Refusal.{Refusal}
@@ -23,19 +22,18 @@ use Rattle.language.specs.declared.refusal.Refusal.the-variants.{Range}
 use Rattle.language.specs.Tree.{Expr, Rule, noExpr}
 use Rattle.language.specs.Walking.{Obligation, walkRules, obligationsOf, firstFault}
 use Rattle.language.specs.Running.{inRange, Dropped}
-use Rattle.language.specs.Drafts.{Sheet, Draft, refusalOf, sheetIf, sheetOf, draftOf, isGuard, marked, firstOpen, answered, readiness, clear}
+use Rattle.language.specs.Drafts.{Sheet, refusalOf, sheetIf, sheetOf, draftOf, isGuard, marked, firstOpen, answered}
 use Rattle.language.specs.Histories.{Step, draftAfter, plainAfter, on}
-use Rattle.language.specs.Entering.{programOf, runIfOpen, bookRun, fullRun}
-use Rattle.language.specs.Promise.{HadGood, Answers, Agrees, Kept, Promise}
-use Rattle.language.proofs.Comparisons.{none-some}
-use Rattle.language.proofs.Walks.{Counts, rules-numbered}
+use Rattle.language.specs.Entering.{programOf, runIfOpen}
+use Rattle.language.specs.Promise.{HadGood, Answers, Agrees, Promise}
+use Rattle.language.proofs.Walks.{rules-numbered}
 use Rattle.language.proofs.Duties.{Fine}
-use Rattle.language.proofs.Assigning.{both-left, both-right}
 use Rattle.language.proofs.Same.{full}
 use Rattle.language.proofs.Induction.{BodyOk}
-use Rattle.language.proofs.Settlings.{listed-from, listed-to, Marks, marks-after, marks-fresh, settled-follows}
+use Rattle.language.proofs.Settlings.{listed-from, listed-to, marks-after, marks-fresh, settled-follows}
 use Rattle.language.proofs.Readiness.{all-closed, answers, fine-notes, bodies}
 use Rattle.language.proofs.Entry.{runs-agree}
+use Rattle.language.proofs.Tests.{both-from, both-left, both-right, cond-none}
 
 -- a sheet is what the walk made of its rules, without a fault
 record Proper (sheet : Sheet) : Type 0 where
@@ -45,15 +43,11 @@ record Proper (sheet : Sheet) : Type 0 where
   bodies-are : sheet .bodies ≡ walkRules (sheet .rules) 0 (sheet .rules) .bodies
   obligations-are : sheet .obligations ≡ obligationsOf (walkRules (sheet .rules) 0 (sheet .rules) .notes)
 
-taken : (b : Bool) (o : Option Refusal) (r : Refusal) → cond b o (Some r) ≡ None → T b × (o ≡ None)
-taken true o r e = (tt, e)
-taken false o r e = absurd (none-some r (sym e))
-
 proper : (low high : ℤ) (rules : List Rule) → Proper (sheetOf low high rules)
 proper low high rules = go (refusalOf low high rules) refl
   where
     unfold-none : (refusalOf low high rules ≡ None) → T (leZ low (pos 0) && leZ (pos 0) high) × (firstFault (walkRules rules 0 rules .notes) ≡ None)
-    unfold-none e = unfold refusalOf in taken (leZ low (pos 0) && leZ (pos 0) high) (firstFault (walkRules rules 0 rules .notes)) Range e
+    unfold-none e = unfold refusalOf in cond-none (leZ low (pos 0) && leZ (pos 0) high) (firstFault (walkRules rules 0 rules .notes)) Range e
 
     go : (o : Option Refusal) → refusalOf low high rules ≡ o → Proper (sheetIf o low high rules)
     go None e =
@@ -74,11 +68,7 @@ module _ (sheet : Sheet) (p : Proper sheet) (history : List Step) (S : Dropped) 
       ((λ g. all-closed S (sheet .obligations) closed i o is g), (λ t. settled-follows sheet i history (had i (subst T (same i) t)) o is)))
 
   zero-fits : T (inRange (sheet .low) (sheet .high) (pos 0))
-  zero-fits = both (leZ (sheet .low) (pos 0)) _ (p .low .le) (p .high .le)
-    where
-      both : (a b : Bool) → T a → T b → T (a && b)
-      both true b h k = k
-      both false b h k = absurd h
+  zero-fits = both-from (leZ (sheet .low) (pos 0)) _ (p .low .le) (p .high .le)
 
   body-ok : (N f : ℕ) → T (ltb f (length (sheet .rules))) → BodyOk (sheet .rules) (programOf sheet) S N f
   body-ok N f l =

@@ -1,31 +1,30 @@
 -- The walk alone: what it has at some point mentions only quantities below the next, and its obligations are numbered one by one.
-use mathlib.Core.Bool.{Bool, true, false, cond}
+use mathlib.Core.Bool.{Bool, true, false}
 use mathlib.Core.List.{List, [], _∷_, _++_, map}
-use mathlib.Core.Path.{_≡_, refl, sym, ap, ap₂, subst, _∙_}
-use Prim.Native.Nat.{ℕ, zero, suc, _+_, _≤_, _<_}
+use mathlib.Core.Path.{_≡_, refl, sym, subst}
+use Prim.Native.Nat.{ℕ, suc, _≤_}
 use native.Mathlib.Nat.{le-refl, le-trans}
 use native.Mathlib.Omega.{arith}
 use lib.Dec.{T, ltb, leb}
 use lib.IntN.{ℤ, pos}
-use lib.ListN.{length, getD}
-use Rattle.std.specs.Iters.{counting}
+use lib.ListN.{length}
 use Rattle.std.specs.shelf.Lists.{All}
 use Rattle.std.specs.declared.option.Option.{Option}
 use Rattle.std.specs.declared.option.Option.the-variants.{Some, None}
-use Rattle.std.proofs.shelf.Elements.{all-append, all-push, all-weaker}
+use Rattle.std.proofs.shelf.Elements.{all-push, all-weaker}
 use Rattle.rows.specs.declared.row.Row.{Row}
 use Rattle.rows.specs.Meaning.{Assignment, Meets, MeetsAll}
 use Rattle.language.specs.declared.term.Term.{Term}
 use Rattle.language.specs.declared.owed.Duty.{Duty}
 use Rattle.language.specs.declared.owed.Duty.the-variants.{Below, Above, Guard}
 use Rattle.language.specs.declared.refusal.Refusal.{Refusal}
-use Rattle.language.specs.Tree.{Condition, Site, Expr, num, name, calc, read, call, bind, test, put, claim, Args, end, value, lent, Param, aNumber, aList, Rule, ruleAt, atLists}
-use Rattle.language.specs.Terms.{constant, zeroTerm, quantity, worth, termAt, worked}
+use Rattle.language.specs.Tree.{Condition, Site, Expr, num, name, calc, read, call, bind, test, put, claim, Args, end, value, lent, Rule, ruleAt}
+use Rattle.language.specs.Terms.{zeroTerm, quantity, worth, termAt, worked}
 use Rattle.language.specs.Comparing.{atMost, rows, otherwise, satisfied, conditionRows, conditionsRows}
-use Rattle.language.specs.Walking.{Obligation, Note, owes, fault, Stand, Scope, Found, Got, Gots, limit, Owing, owe, oweAll, Known, assume, assumeAll, oweChecks, counted, knowing, binding, fresh, freshWith, orFresh, Mode, infer, check, finish, join, walk, walks, startNames, startScope, startKnown, startStand, walkBody, walkRules}
+use Rattle.language.specs.Walking.{Note, owes, fault, Stand, Scope, Found, Got, Gots, limit, owe, oweAll, assume, assumeAll, oweChecks, counted, knowing, binding, fresh, freshWith, orFresh, Mode, infer, check, finish, join, walk, walks, startNames, startScope, startKnown, startStand, walkBody, walkRules}
 use Rattle.language.proofs.Worths.{Agree, agree-less, Stable, stable-more, stable-constant, stable-quantity, stable-worked, StableAll, stables-more, stables-nil, stables-cons, stables-push}
 use Rattle.language.proofs.Assigning.{quantities-stable, atLists-stable, lengths-firm}
-use Rattle.language.proofs.Comparisons.{IfMade, Firm, IfFirm, none-some, rows-firm, otherwise-firm, condition-firm, condition-from}
+use Rattle.language.proofs.Comparisons.{IfMade, Firm, IfFirm, rows-firm, otherwise-firm, condition-firm, condition-from}
 
 -- facts that are met, and that mention quantities below n only
 pub meets-push : (q : Assignment) (F : List Row) (r : Row) → MeetsAll q F → Meets q r → MeetsAll q (F ++ r ∷ [])

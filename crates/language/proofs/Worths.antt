@@ -1,30 +1,27 @@
 -- What terms are worth, and that they are worth the same at assignments that agree on what they mention.
-use mathlib.Core.Bool.{Bool, true, false, cond, _&&_}
+use mathlib.Core.Bool.{Bool, true, false, cond}
 use mathlib.Core.List.{List, [], _∷_, _++_, map}
 use mathlib.Core.Logic.{⊎-elim}
-use mathlib.Core.Path.{_≡_, refl, sym, ap, ap₂, subst, _∙_}
-use Prim.Native.Nat.{ℕ, zero, suc, _+_, _≤_, _<_}
+use mathlib.Core.Path.{_≡_, refl, sym, ap, ap₂, _∙_}
+use Prim.Native.Nat.{ℕ, zero, suc, _≤_, _<_}
 use native.Mathlib.Nat.{le-trans, zero-add}
 use native.Mathlib.Omega.{arith}
-use lib.Dec.{T, eqb, ltb, eqb→eq, eqb-refl}
+use lib.Dec.{eqb}
 use lib.IntN.{ℤ, pos, negℤ, _+ℤ_, _-ℤ_, _*ℤ_, zero-*ℤ, *ℤ-zero, *ℤ-one, *ℤ-comm}
-use lib.ListN.{getD, length}
-use Rattle.std.specs.Iters.{counting}
-use Rattle.std.specs.declared.option.Option.{Option}
+use lib.ListN.{getD}
 use Rattle.std.specs.declared.option.Option.the-variants.{Some, None}
 use Rattle.std.proofs.shelf.Counted.{getD-map-counting}
 use Rattle.std.proofs.shelf.Signed.{ints}
-use Rattle.std.proofs.shelf.Tests.{ltb-true, ltb-false, lt-ltb, le-ltb, eq-eqb, ne-eqb, eqb-true, eqb-false, cases-eq}
+use Rattle.std.proofs.shelf.Tests.{eq-eqb, ne-eqb, eqb-true, cases-eq}
 use Rattle.ints.specs.Sums.{sumTo}
-use Rattle.ints.specs.Tests.{allBelow, isZero}
-use Rattle.ints.proofs.Products.{mul-sum, sum-mul, mul-mul, neg-mul}
-use Rattle.ints.proofs.Sums.{sum-same, at, at-sum, at-neg, at-zeros, at-none}
+use Rattle.ints.proofs.Products.{mul-sum, mul-mul}
+use Rattle.ints.proofs.Sums.{sum-same, at-sum, at-neg, at-zeros, at-none}
 use Rattle.rows.specs.Meaning.{Assignment}
 use Rattle.language.specs.declared.term.Term.{Term}
 use Rattle.language.specs.declared.sign.Operator.{Operator}
 use Rattle.language.specs.declared.sign.Operator.the-variants.{Sum, Difference, Product}
 use Rattle.language.specs.Vocabulary.{reckoned}
-use Rattle.language.specs.Terms.{coefOf, each, constant, zeroTerm, quantity, plus, minus, scaled, worth, termAt, fitsTerm, isConstant, limited, worked}
+use Rattle.language.specs.Terms.{coefOf, each, constant, quantity, plus, minus, scaled, worth, termAt, fitsTerm, isConstant, limited, worked}
 
 each-at : (f : ℕ → ℤ) (j : ℕ) → j < 16 → getD (each f) j (pos 0) ≡ f j
 unfolding each

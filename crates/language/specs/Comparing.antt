@@ -1,24 +1,22 @@
 -- Comparisons as rows, the rows of their negations, and conditions: what they say of numbers, and which rows they come to.
-use mathlib.Core.Bool.{Bool, true, false, cond, _&&_}
-use mathlib.Core.List.{List, [], _∷_, _++_}
+use mathlib.Core.Bool.{Bool, true, cond, _&&_}
+use mathlib.Core.List.{List, [], _∷_}
 use mathlib.Core.Path.{_≡_}
-use Prim.Native.Nat.{ℕ}
 use lib.IntN.{ℤ, pos, _+ℤ_, _-ℤ_, _*ℤ_}
 use lib.ListN.{getD}
 use Rattle.std.specs.Joined.{joined}
 use Rattle.std.specs.Options.{isSome}
 use Rattle.std.specs.shelf.Lists.{All}
 use Rattle.std.specs.declared.option.Option.{Option}
-use Rattle.std.specs.declared.option.Option.the-variants.{Some, None}
+use Rattle.std.specs.declared.option.Option.the-variants.{None}
 use Rattle.rows.specs.declared.row.Row.{Row}
-use Rattle.rows.specs.declared.row.Kind.{Kind}
 use Rattle.rows.specs.declared.row.Kind.the-variants.{AtMost, Unequal}
 use Rattle.rows.specs.Rows.{rowOf}
 use Rattle.language.specs.declared.term.Term.{Term}
 use Rattle.language.specs.declared.sign.Comparison.{Comparison}
 use Rattle.language.specs.declared.sign.Comparison.the-variants.{Less, LessOrEqual, Equal, NotEqual}
 use Rattle.language.specs.Vocabulary.{holds}
-use Rattle.language.specs.Tree.{Atom, one, named, result, Item, Side, Condition}
+use Rattle.language.specs.Tree.{Atom, one, named, result, Side, Condition}
 use Rattle.language.specs.Terms.{constant, zeroTerm, plus, minus, scaled, termAt, fitsTerm}
 
 -- A row is none where it would lie outside its limits; terms within their own limits always make one (`RowsFit`).

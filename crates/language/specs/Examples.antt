@@ -14,7 +14,7 @@ use Rattle.language.specs.declared.ending.Ending.the-variants.{Value, Spent, D
 use Rattle.language.specs.declared.refusal.Refusal.the-variants.{Closed, Needs}
 use Rattle.language.specs.declared.sign.Operator.the-variants.{Sum, Product}
 use Rattle.language.specs.declared.sign.Comparison.the-variants.{Less, LessOrEqual}
-use Rattle.language.specs.Tree.{one, named, result, Item, Side, Condition, Site, Expr, num, name, calc, read, call, bind, test, put, claim, end, value, lent, aNumber, aList, Rule}
+use Rattle.language.specs.Tree.{one, named, result, Side, Site, num, name, calc, read, call, bind, test, put, claim, end, value, lent, aNumber, aList, Rule}
 use Rattle.language.specs.Walking.{Obligation}
 use Rattle.language.specs.Drafts.{Sheet, sheetOf}
 use Rattle.language.specs.Entering.{Answer, refused, ended, astray, bookRun}

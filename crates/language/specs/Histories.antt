@@ -1,5 +1,5 @@
 -- Histories of a draft: settlings by any domain and any prover, and Readys, in any order; and the plain list that goes with them.
-use mathlib.Core.Bool.{Bool, true, false, cond, _&&_, _||_}
+use mathlib.Core.Bool.{Bool, false, cond, _&&_, _||_}
 use mathlib.Core.List.{List, [], _∷_}
 use Prim.Native.Nat.{ℕ, _≤_}
 use lib.Dec.{eqb}
@@ -9,10 +9,10 @@ use lib.ListN.{length}
 use Rattle.std.specs.shelf.Maps.{nth}
 use Rattle.std.specs.declared.option.Option.{Option}
 use Rattle.std.specs.declared.option.Option.the-variants.{Some, None}
-use Rattle.std.specs.declared.result.Result.the-variants.{Ok, Err}
+use Rattle.std.specs.Results.{isOk}
 use Rattle.rows.specs.declared.row.Row.{Row}
 use Rattle.rows.specs.Meaning.{Follows}
-use Rattle.domains.specs.Faults.{Outcome, Good}
+use Rattle.domains.specs.Faults.{Good}
 use Rattle.language.specs.Limits.{longestProposal}
 use Rattle.language.specs.Walking.{Obligation}
 use Rattle.language.specs.Drafts.{Sheet, Draft, Domain, Prover, wide, settled}
@@ -36,20 +36,15 @@ pub data Step : Type 0 where
   ready : Step
 
 -- a draft after a history of such steps
-
 unfoldable pub draftAfter : Draft → List Step → Draft
 draftAfter draft [] = draft
 draftAfter draft (settling n d l p b ∷ history) = draftAfter (settled draft n d p) history
 draftAfter draft (ready ∷ history) = draftAfter draft history
 
 -- The plain list: a good settling puts its number on it, and nothing else does.
-abbrev pub isGood : Outcome → Bool
-isGood (Ok u) = true
-isGood (Err f) = false
-
 abbrev pub goodProposal : Domain → Obligation → Option (List ℕ) → Bool
 goodProposal d o None = false
-goodProposal d o (Some c) = isGood (d .outcome (o .facts) (o .goal) c)
+goodProposal d o (Some c) = isOk (d .outcome (o .facts) (o .goal) c)
 
 abbrev pub goodFor : Sheet → Domain → Prover → Option Obligation → Bool
 goodFor sheet d p None = false

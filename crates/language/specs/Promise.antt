@@ -1,5 +1,5 @@
 -- The soundness promise, undivided: for every sheet, range and history, what is settled, when a book is open, and what then holds of every run.
-use mathlib.Core.Bool.{Bool, true, false, not}
+use mathlib.Core.Bool.{not}
 use mathlib.Core.List.{List, [], _∷_}
 use mathlib.Core.Path.{_≡_}
 use mathlib.Core.Logic.{_↔_, _⊎_}
@@ -9,7 +9,7 @@ use lib.IntN.{ℤ, pos}
 use lib.ListN.{length}
 use Rattle.std.specs.shelf.Maps.{nth}
 use Rattle.std.specs.shelf.Lists.{All, kept-by}
-use Rattle.std.specs.declared.option.Option.the-variants.{Some, None}
+use Rattle.std.specs.declared.option.Option.the-variants.{Some}
 use Rattle.std.specs.declared.result.Result.{Result}
 use Rattle.std.specs.declared.result.Result.the-variants.{Ok, Err}
 use Rattle.domains.specs.Faults.{Good}
@@ -17,11 +17,11 @@ use Rattle.language.specs.declared.part.Part.{Part}
 use Rattle.language.specs.declared.refusal.Refusal.{Refusal}
 use Rattle.language.specs.declared.refusal.Refusal.the-variants.{Closed}
 use Rattle.language.specs.declared.ending.End.{End}
-use Rattle.language.specs.Tree.{Condition, Rule, ruleAt}
+use Rattle.language.specs.Tree.{Rule, ruleAt}
 use Rattle.language.specs.Comparing.{satisfied}
 use Rattle.language.specs.Walking.{Obligation}
-use Rattle.language.specs.Running.{Event, came, called, returned, Dropped, madeIn}
-use Rattle.language.specs.Drafts.{Sheet, Draft, Book, sheetOf, draftOf, Domain, Prover, wide, isGuard, marked, readiness, clear}
+use Rattle.language.specs.Running.{Event, came, called, returned, madeIn}
+use Rattle.language.specs.Drafts.{Sheet, Draft, sheetOf, draftOf, Domain, Prover, wide, isGuard, marked, readiness, clear}
 use Rattle.language.specs.Histories.{Step, settling, ready, draftAfter, plainAfter, on}
 use Rattle.language.specs.Entering.{Answer, refused, ended, astray, bookRun, fullRun}
 

@@ -10,8 +10,10 @@ use Rattle.std.specs.declared.option.Option.{Option}
 use Rattle.std.specs.declared.option.Option.the-variants.{Some, None}
 use Rattle.language.specs.declared.part.Part.{Part}
 use Rattle.language.specs.declared.ending.Ending.{Ending}
-use Rattle.language.specs.declared.ending.Ending.the-variants.{Spent, Deep, Range, Below, Above}
-use Rattle.language.specs.Vocabulary.{reckoned, holds}
+use Rattle.language.specs.declared.ending.Ending.the-variants.{Spent, Deep, Range}
+use Rattle.language.specs.declared.owed.Check.{Check}
+use Rattle.language.specs.declared.owed.Check.the-variants.{Below, Above}
+use Rattle.language.specs.Vocabulary.{checkEnding, reckoned, holds}
 use Rattle.language.specs.Tree.{Site, Expr, num, name, calc, read, call, bind, test, put, claim, Args, end, value, lent, placeOf, noExpr, lentOf}
 
 -- a check that was come to, with its number, whether it was made, and whether it passes;
@@ -76,9 +78,9 @@ abbrev pub Dropped : Type 0
 Dropped = ℕ → Bool
 
 -- a check that is come to: dropped, or made, and then it may fail
-unfoldable pub check : Dropped → Ending → ℕ → ℕ → Bool → Run (Unit {0})
+unfoldable pub check : Dropped → Check → ℕ → ℕ → Bool → Run (Unit {0})
 check S kind place number passes =
-    emit (came number (not (S number)) passes) >> cond (S number || passes) (give tt) (halt kind place)
+    emit (came number (not (S number)) passes) >> cond (S number || passes) (give tt) (halt (checkEnding kind) place)
 
 -- the cell of an element of a part
 abbrev pub cellOf : Part → ℤ → Option ℕ

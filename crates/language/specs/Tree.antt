@@ -32,21 +32,30 @@ pub record Site : Type 0 where
   pub number : ℕ
   pub list : ℕ
 
--- The first number is the place. A name's slot counts the names in force: the rule's numbers and lengths in the order of its
+-- An expression, its place first. A name's slot counts the names in force: the rule's numbers and lengths in the order of its
 -- head, then the lets. A list's slot counts the rule's lists.
 mutual
   pub data Expr : Type 0 where
+    -- a numeral
     num : ℕ → ℕ → Expr
+    -- a name, by its slot
     name : ℕ → ℕ → Expr
+    -- a sum, difference or product
     calc : ℕ → Operator → Expr → Expr → Expr
+    -- list[e]
     read : Site → Expr → Expr
+    -- a call of a rule, by its number
     call : ℕ → ℕ → Args → Expr
+    -- let name = a in b
     bind : ℕ → Expr → Expr → Expr
+    -- if a < b then d else e, with any comparison
     test : ℕ → Comparison → Expr → Expr → Expr → Expr → Expr
+    -- put list[a] := b in e; the first place is the keyword's, the site's is the list's name's
     put : ℕ → Site → Expr → Expr → Expr → Expr
+    -- (e as conditions)
     claim : ℕ → Expr → List Condition → Expr
 
-  -- arguments: the value of an expression, or a list that is lent
+  -- arguments: the value of an expression, or a list that is lent, by its slot
   pub data Args : Type 0 where
     end : Args
     value : Expr → Args → Args

@@ -66,11 +66,12 @@ pub record Gots : Type 0 where
   pub notes : List Note
   pub tree : Args
 
+-- a limit that is kept, or met
 unfoldable pub limit : Bool → Refusal → List Note
 limit true r = []
 limit false r = fault r ∷ []
 
--- owing a row, and rows
+-- owing a row: a duty at a place, the place of the expression at work, the facts in force, and the number that the obligation gets
 pub record Owing : Type 0 where
   pub count : ℕ
   pub notes : List Note
@@ -87,7 +88,7 @@ oweAll place facts count (r ∷ rs) =
     let os = oweAll place facts (o .count) rs in
     record { count = os .count; notes = o .notes ++ os .notes }
 
--- taking rows as facts
+-- taking rows as facts; the place is that of a limit that is met
 pub record Known : Type 0 where
   pub facts : List Row
   pub notes : List Note
