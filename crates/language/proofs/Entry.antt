@@ -96,7 +96,7 @@ module _ (sheet : Sheet) (list : List ℕ) (S : Dropped) (same : (n : ℕ) → S
   made-kept (returned f xs v ∷ es) h = made-kept es (h .1)
 
   sound : (e : Event) → Good (sheet .rules) S e → Sound sheet list e
-  sound (came n made passes) h = λ t. h .1 (subst T (sym (same n)) t)
+  sound (came n made passes) h = (h .0, λ t. h .1 (subst T (sym (same n)) t))
   sound (called f xs) h = h
   sound (returned f xs v) h = h
 

@@ -23,11 +23,11 @@ use Rattle.language.specs.declared.refusal.Refusal.the-variants.{Name}
 use Rattle.language.specs.declared.sign.Operator.{Operator}
 use Rattle.language.specs.Vocabulary.{reckoned, holds}
 use Rattle.language.specs.Tree.{Condition, Site, Expr, num, name, calc, read, call, bind, test, put, claim, Args, end, value, lent, noExpr, Param, aNumber, aList, Rule, ruleAt, atLists, shape, lentOf}
-use Rattle.language.specs.Terms.{zeroTerm, quantity, worth, termAt, worked}
+use Rattle.language.specs.Terms.{zeroTerm, quantity, worth, termAt, worked, constant, limited}
 use Rattle.language.specs.Comparing.{atMost, satisfied, rows, otherwise, conditionsRows}
 use Rattle.language.specs.Walking.{Note, Stand, Scope, Found, limit, oweAll, assume, oweChecks, numbered, counted, knowing, binding, fresh, freshWith, orFresh, Mode, infer, check, finish, join, sameParams, callable, walk, walks, startNames, startScope, startKnown, startStand, walkBody}
 use Rattle.language.specs.Running.{Event, came, called, returned, Run, _>>=_, inRange, Dropped, touch, Frame, partAt, lengthOf, holding, Program, Eval, enter, values, node, run}
-use Rattle.language.proofs.Worths.{worth-constant, worth-quantity, worked-worth, worths-at, worths-move, Agree, agree-less, agree-trans, Stable, StableAll, stable-more, stables-more}
+use Rattle.language.proofs.Worths.{worth-constant, worth-quantity, worked-worth, worths-at, worths-move, Agree, agree-less, agree-trans, Stable, StableAll, stable-more, stables-more, limited-is}
 use Rattle.language.proofs.Comparisons.{Firm, rows-from, otherwise-from, rows-firm, otherwise-firm}
 use Rattle.language.proofs.Walks.{facts-move, assume-meets, assume-firm, assumeAll-meets, Ok, found, OkScope, scope-more, scope-binding, walk-ok, walks-ok, start-scope, start-firm}
 use Rattle.language.proofs.Same.{Same, full, same-give, same-halt, same-emit, same-load, same-store, same-spend, same-bind, same-cond, same-fit, same-touch, same-post}
@@ -190,16 +190,13 @@ module _ (R : List Rule) (P : Program) (S : Dropped) (N : ℕ) where
     fits = r .fits;
   }
 
-  -- what is worked out of two values
-  worked-met : {q : Assignment} {Γ : Scope} {E : Frame} (place : ℕ) (o : Operator) (t u : Term) (x y : ℤ) (s : Stand) (notes : List Note) → Here q Γ (s .next) (s .facts) E
-      → worth q t ≡ x → worth q u ≡ y → All (Fine (P .low) (P .high) S) (orFresh place (worked o t u) s notes .notes) → InRange (reckoned o x y)
-      → Met q (s .next) (orFresh place (worked o t u) s notes .stand .facts) (orFresh place (worked o t u) s notes .term) (reckoned o x y)
+  -- a term that was worked out, or else the next quantity
+  or-met : {q : Assignment} {Γ : Scope} {E : Frame} (place : ℕ) (t : Option Term) (v : ℤ) (s : Stand) (notes : List Note) → Here q Γ (s .next) (s .facts) E
+      → ((u : Term) → t ≡ Some u → worth q u ≡ v) → All (Fine (P .low) (P .high) S) (orFresh place t s notes .notes) → InRange v
+      → Met q (s .next) (orFresh place t s notes .stand .facts) (orFresh place t s notes .term) v
   unfolding orFresh fresh
-  worked-met {q} place o t u x y s notes h ex ey f i = go (worked o t u) refl f
-    where
-      go : (w : Option Term) → worked o t u ≡ w → All (Fine (P .low) (P .high) S) (orFresh place w s notes .notes) → Met q (s .next) (orFresh place w s notes .stand .facts) (orFresh place w s notes .term) (reckoned o x y)
-      go None e f = fresh-met h (fresh-room (P .low) (P .high) S place s notes f) (reckoned o x y) i
-      go (Some w) e f = here-met h w (reckoned o x y) (worked-worth q o t u w e ∙ ap₂ (reckoned o) ex ey) i
+  or-met place None v s notes h e f i = fresh-met h (fresh-room (P .low) (P .high) S place s notes f) v i
+  or-met place (Some u) v s notes h e f i = here-met h u v (e u refl) i
 
   -- what is checked besides keeps its conditions
   finished : (μ : Mode) (L : List ℤ) (place : ℕ) (f : Found) (q : Assignment) (n : ℕ) (m m′ : Run ℤ) → ModeAt μ n q L
@@ -356,7 +353,7 @@ module _ (R : List Rule) (P : Program) (S : Dropped) (N : ℕ) where
         → Same S N (Good R S) (Post μ L q (s .next) (walk R μ Γ s e .stand .facts) (walk R μ Γ s e .term)) (node P S ev E (walk R μ Γ s e .tree)) (node P full ev′ E (walk R μ Γ s e .tree))
     unfolding walk node fresh
     node-sound (num p n) μ L s {q = q} md h o =
-        finished μ L p _ q (s .next) _ _ md o (λ _. same-fit S N (Good R S) P p _ _ (λ t. here-met h _ (pos n) (worth-constant q (pos n)) t))
+        finished μ L p _ q (s .next) _ _ md o (λ o. same-fit S N (Good R S) P p _ _ (λ t. or-met p (limited (constant (pos n))) (pos n) s [] h (λ u e. ap (worth q) (sym (limited-is (constant (pos n)) u e)) ∙ worth-constant q (pos n)) o t))
     node-sound (name p i) μ L {Γ} s {q = q} md h o =
         finished μ L p _ q (s .next) _ _ md o (λ _. same-fit S N (Good R S) P p _ _ (λ t. here-met h (termAt (Γ .names) i) _ (sym (worths-at q (Γ .names) i) ∙ ap (λ (l : List ℤ). getD l i (pos 0)) (h .names)) t))
     node-sound (calc p c a b) μ L {Γ} s {E} {q} md h o =
@@ -369,7 +366,7 @@ module _ (R : List Rule) (P : Program) (S : Dropped) (N : ℕ) where
         let h₁ = after (found g) h gk r in
         then (ih .at b infer [] Γ (g .stand) E _ tt h₁ (all-right _ (g .notes) _ o₂)) (λ y t.
         let w = both (found g) (found k) gk (walked (g .stand) infer b h₁) r h₁ t in
-        same-fit S N (Good R S) P p _ _ (λ z. met-from (w .agree) (w .up) (worked-met p c (g .term) (k .term) x y (k .stand) (g .notes ++ k .notes) (w .here) (w .first) (w .second) o z)))))
+        same-fit S N (Good R S) P p _ _ (λ z. met-from (w .agree) (w .up) (or-met p (worked c (g .term) (k .term)) (reckoned c x y) (k .stand) (g .notes ++ k .notes) (w .here) (λ u e. worked-worth (w .asg) c (g .term) (k .term) u e ∙ ap₂ (reckoned c) (w .first) (w .second)) o z)))))
     node-sound (read site e) μ L {Γ} s {E} {q} md h o =
         let g = walk R infer Γ s e in
         let gk = walked s infer e h in

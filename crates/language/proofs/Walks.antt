@@ -19,10 +19,10 @@ use Rattle.language.specs.declared.owed.Duty.{Duty}
 use Rattle.language.specs.declared.owed.Duty.the-variants.{Below, Above, Guard}
 use Rattle.language.specs.declared.refusal.Refusal.{Refusal}
 use Rattle.language.specs.Tree.{Condition, Site, Expr, num, name, calc, read, call, bind, test, put, claim, Args, end, value, lent, Rule, ruleAt}
-use Rattle.language.specs.Terms.{zeroTerm, quantity, worth, termAt, worked}
+use Rattle.language.specs.Terms.{zeroTerm, quantity, worth, termAt, worked, constant, limited}
 use Rattle.language.specs.Comparing.{atMost, rows, otherwise, satisfied, conditionRows, conditionsRows}
 use Rattle.language.specs.Walking.{Note, owes, fault, Stand, Scope, Found, Got, Gots, limit, owe, oweAll, assume, assumeAll, oweChecks, counted, knowing, binding, fresh, freshWith, orFresh, Mode, infer, check, finish, join, walk, walks, startNames, startScope, startKnown, startStand, walkBody, walkRules}
-use Rattle.language.proofs.Worths.{Agree, agree-less, Stable, stable-more, stable-constant, stable-quantity, stable-worked, StableAll, stables-more, stables-nil, stables-cons, stables-push}
+use Rattle.language.proofs.Worths.{Agree, agree-less, Stable, stable-more, stable-constant, stable-quantity, stable-worked, StableAll, stables-more, stables-nil, stables-cons, stables-push, limited-is}
 use Rattle.language.proofs.Assigning.{quantities-stable, atLists-stable, lengths-firm}
 use Rattle.language.proofs.Comparisons.{IfMade, Firm, IfFirm, rows-firm, otherwise-firm, condition-firm, condition-from}
 
@@ -197,7 +197,8 @@ mutual
   unfolding walk
 
   pub walk-ok : (R : List Rule) (m : Mode) (Γ : Scope) (s : Stand) (e : Expr) → OkScope (s .next) Γ → All (Firm (s .next)) (s .facts) → Ok (s .next) (s .count) (found (walk R m Γ s e))
-  walk-ok R m Γ s (num p n) c f = ok-finish (s .next) (s .count) m p _ (record { stand = here s f; term = stable-constant (s .next) (pos n); numbered = numbered-nil (s .count) })
+  walk-ok R m Γ s (num p n) c f =
+      ok-finish (s .next) (s .count) m p _ (ok-orFresh (s .next) (s .count) p s [] (here s f) (numbered-nil (s .count)) (limited (constant (pos n))) (λ u e. subst (Stable (s .next)) (limited-is (constant (pos n)) u e) (stable-constant (s .next) (pos n))))
   walk-ok R m Γ s (name p i) c f = ok-finish (s .next) (s .count) m p _ (record { stand = here s f; term = c .names i; numbered = numbered-nil (s .count) })
   walk-ok R m Γ s (calc p o a b) c f =
       let g = walk R infer Γ s a in

@@ -101,7 +101,7 @@ worth-fixed q t h =
     omega (arith, ints)
 
 -- a term that is worked out is worth what its parts give
-limited-is : (t v : Term) → limited t ≡ Some v → t ≡ v
+pub limited-is : (t v : Term) → limited t ≡ Some v → t ≡ v
 limited-is t v = go (fitsTerm t)
   where
     go : (b : Bool) → cond b (Some t) None ≡ Some v → t ≡ v

@@ -1,5 +1,5 @@
 -- The soundness promise, undivided: for every sheet, range and history, what is settled, when a book is open, and what then holds of every run.
-use mathlib.Core.Bool.{not}
+use mathlib.Core.Bool.{true, not}
 use mathlib.Core.List.{List, [], _∷_}
 use mathlib.Core.Path.{_≡_}
 use mathlib.Core.Logic.{_↔_, _⊎_}
@@ -52,9 +52,9 @@ Answers sheet list (Err r) =
     (n : ℕ) × (o : Obligation) × (nth (sheet .obligations) n ≡ Some o) × T (isGuard (o .duty)) × T (not (on list n))
     × ((m : ℕ) → m < n → GuardOn sheet list m) × (r ≡ Closed n (o .place))
 
--- in a full run: a check on the list passes, a call meets its rule's needs, a returned value meets its rule's gives
+-- in a full run: a check that is come to is made, and passes if it is on the list, a call meets its rule's needs, a returned value meets its rule's gives
 abbrev pub Sound : Sheet → List ℕ → Event → Type 0
-Sound sheet list (came n made passes) = T (on list n) → T passes
+Sound sheet list (came n made passes) = (made ≡ true) × (T (on list n) → T passes)
 Sound sheet list (called f xs) = All (λ c. T (satisfied xs (pos 0) c)) (ruleAt (sheet .rules) f .needs)
 Sound sheet list (returned f xs v) = All (λ c. T (satisfied xs v c)) (ruleAt (sheet .rules) f .gives)
 

@@ -2,11 +2,13 @@
 -- A limit that is met is noted, and the walk goes on as if there were none.
 use mathlib.Core.Bool.{Bool, true, false, cond, _&&_}
 use mathlib.Core.List.{List, [], _∷_, _++_, map}
+use mathlib.Core.Path.{_≡_}
 use Prim.Native.Nat.{ℕ, suc}
 use lib.Dec.{ltb, leb}
 use lib.IntN.{pos}
 use lib.ListN.{length}
 use Rattle.std.specs.Iters.{counting}
+use Rattle.std.specs.shelf.Lists.{All}
 use Rattle.std.specs.declared.option.Option.{Option}
 use Rattle.std.specs.declared.option.Option.the-variants.{Some, None}
 use Rattle.rows.specs.declared.row.Row.{Row}
@@ -17,7 +19,7 @@ use Rattle.language.specs.declared.refusal.Refusal.{Refusal}
 use Rattle.language.specs.declared.refusal.Refusal.the-variants.{Name, Full, Large}
 use Rattle.language.specs.Limits.{quantities, mostFacts, mostObligations}
 use Rattle.language.specs.Tree.{Condition, Site, Expr, num, name, calc, read, call, bind, test, put, claim, Args, end, value, lent, Param, aNumber, aList, Rule, ruleAt, atLists, shape}
-use Rattle.language.specs.Terms.{constant, zeroTerm, quantity, termAt, worked}
+use Rattle.language.specs.Terms.{constant, zeroTerm, quantity, termAt, fitsTerm, limited, worked}
 use Rattle.language.specs.Comparing.{atMost, rows, otherwise, conditionRows, conditionsRows}
 
 -- an obligation's question is whether its goal follows from the facts in force when it was owed
@@ -181,7 +183,7 @@ callable rules f es = ltb f (length rules) && sameParams (shape es) (ruleAt rule
 
 unfoldable mutual
   pub walk : List Rule → Mode → Scope → Stand → Expr → Got
-  walk R m Γ s (num p n) = got (num p n) (finish m p (record { term = constant (pos n); stand = s; notes = [] }))
+  walk R m Γ s (num p n) = got (num p n) (finish m p (orFresh p (limited (constant (pos n))) s []))
   walk R m Γ s (name p i) = got (name p i) (finish m p (record { term = termAt (Γ .names) i; stand = s; notes = [] }))
   walk R m Γ s (calc p o a b) =
       let g = walk R infer Γ s a in
@@ -228,6 +230,11 @@ unfoldable mutual
   walks R Γ s (lent l es) =
       let h = walks R Γ s es in
       record { terms = termAt (Γ .lengths) l ∷ h .terms; stand = h .stand; notes = h .notes; tree = lent l (h .tree) }
+
+-- every term that the walk has lies within its limits
+pub record TermsFit : Type 0 where
+  pub kept : (R : List Rule) (m : Mode) (Γ : Scope) (s : Stand) (e : Expr)
+      → All (λ t. fitsTerm t ≡ true) (Γ .names) → All (λ t. fitsTerm t ≡ true) (Γ .lengths) → fitsTerm (walk R m Γ s e .term) ≡ true
 
 -- where a rule's body begins: numbers and lengths are the first quantities, each length is at least 0, and the needs hold
 abbrev pub startNames : Rule → List Term

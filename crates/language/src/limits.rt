@@ -2,6 +2,7 @@ ghost use mathlib.Core.Path.{_≡_};
 ghost use lib.IntN.{pos};
 ghost use Rattle.language.specs.Comparing.{RowsFit};
 ghost use Rattle.language.specs.Limits.{mostDepth, termLimit};
+ghost use Rattle.language.specs.Walking.{TermsFit};
 ghost use Rattle.language.specs.Examples.{Worked};
 
 // A sheet with more obligations is refused.
@@ -25,10 +26,11 @@ pub fn most_depth() -> u32
     MOST_DEPTH
 }
 
-// The limit of terms and sides. Two that keep it compare by rows that keep a row's limits.
+// The limit of terms and sides. Every term of the walk keeps it, and two that keep it compare by rows that keep a row's limits.
 pub fn term_limit() -> i32
     ensures value { λ r. ⌜ r ≡ pos termLimit ⌝ }
     ensures rows { λ _. ⌜ RowsFit ⌝ }
+    ensures terms { λ _. ⌜ TermsFit ⌝ }
 {
     TERM_LIMIT
 }
