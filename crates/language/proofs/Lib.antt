@@ -1,0 +1,15 @@
+pub mod Tests
+pub mod Examples
+pub mod Worths
+pub mod Comparisons
+pub mod Walks
+pub mod Same
+pub mod Duties
+pub mod Assigning
+pub mod Induction
+pub mod Settlings
+pub mod Readiness
+pub mod Entry
+pub mod Theorem
+pub mod Fitting
+pub mod Laws

@@ -1,0 +1,12 @@
+pub mod Vocabulary
+pub mod Limits
+pub mod Tree
+pub mod Terms
+pub mod Comparing
+pub mod Walking
+pub mod Running
+pub mod Drafts
+pub mod Histories
+pub mod Entering
+pub mod Promise
+pub mod Examples
