@@ -3,7 +3,7 @@ use mathlib.Core.Bool.{Bool, true, false, cond}
 use mathlib.Core.List.{List, [], _∷_, _++_}
 use mathlib.Core.Logic.{_⊎_, inl, inr}
 use mathlib.Core.Path.{_≡_, refl, sym, ap, ap₂, subst, _∙_}
-use Prim.Native.Nat.{ℕ, zero, suc, _+_, _<_, _≤_}
+use Prim.Native.Nat.{ℕ, _+_, _<_, _≤_}
 use native.Mathlib.Omega.{arith}
 use lib.Dec.{eqb, leb}
 use lib.ListN.{length, getD, take, drop}
@@ -19,18 +19,17 @@ use Rattle.std.specs.declared.option.Option.the-variants.{Some, None}
 use Rattle.letters.specs.declared.kind.Kind.{Kind}
 use Rattle.letters.specs.declared.kind.Kind.the-variants.{Name, Numeral}
 use Rattle.letters.specs.declared.token.Token.{Token}
-use Rattle.letters.specs.declared.cutting.Lead.{Lead}
 use Rattle.letters.specs.declared.cutting.Lead.the-variants.{Gap, Word, Number, Sign}
-use Rattle.letters.specs.declared.cutting.Piece.{Piece}
-use Rattle.letters.specs.declared.cutting.Piece.the-variants.{Blank, Part, Bad}
-use Rattle.letters.specs.Bytes.{isBlank, isLetter, isDigit, EachLetter, EachDigit, leadOf}
-use Rattle.letters.specs.Cuts.{wordBy, wordAt, numeralBy, numeralAt, signOf, signBy, signAt, pieceBy, pieceOf}
+use Rattle.letters.specs.declared.cutting.Piece.the-variants.{Part, Bad}
+use Rattle.letters.specs.Bytes.{isBlank, isLetter, isDigit, EachLetter, EachDigit}
+use Rattle.letters.specs.Cuts.{wordAt, numeralAt, signOf, signBy, signAt, pieceBy, pieceOf}
 use Rattle.letters.specs.Kinds.{word, keywordOf, keywords, writtenSo}
 use Rattle.letters.specs.Spelling.{Spelt, name, numeral, fixed, Grows, by-letter, by-digit, to-sign, Longest}
 use Rattle.letters.specs.Tokens.{tokenOf}
 use Rattle.letters.proofs.Running.{run-passes, run-ends, run-some}
 use Rattle.letters.proofs.Signs.{short, long, sign-is, Longer, letters, equals, longer}
 use Rattle.letters.proofs.Signs as signs
+use Rattle.letters.proofs.Sorts.{Mark}
 use Rattle.letters.proofs.Writing.{written-as}
 
 pub record Good (i : ℕ) (bs : List ℕ) (t : Token) : Type 0 where
@@ -43,13 +42,13 @@ pub record Good (i : ℕ) (bs : List ℕ) (t : Token) : Type 0 where
 letter-digit : (x : ℕ) → isLetter x ≡ true → isDigit x ≡ true → ⊥
 letter-digit x l d = let no : _≡_ {A = ℕ} 0 1 = grind (arith, tells) in omega arith
 
-not-mark : (x c : ℕ) → x ≡ c → (c ≡ 60) ⊎ ((c ≡ 33) ⊎ (c ≡ 58)) → (x ≡ 60 → ⊥) × (x ≡ 33 → ⊥) × (x ≡ 58 → ⊥) → ⊥
+not-mark : (x c : ℕ) → x ≡ c → Mark c → (x ≡ 60 → ⊥) × (x ≡ 33 → ⊥) × (x ≡ 58 → ⊥) → ⊥
 not-mark x c e (inl h) n = n .0 (e ∙ h)
 not-mark x c e (inr (inl h)) n = n .1 (e ∙ h)
 not-mark x c e (inr (inr h)) n = n .2 (e ∙ h)
 
 -- a byte that is no letter, digit or = makes nothing longer, and these only what they go on with
-module _ (w : List ℕ) (b : ℕ) (some : 0 < length w) (nl : EachLetter w → isLetter b ≡ true → ⊥) (nd : EachDigit w → isDigit b ≡ true → ⊥) (ns : (c : ℕ) → w ≡ c ∷ [] → (c ≡ 60) ⊎ ((c ≡ 33) ⊎ (c ≡ 58)) → b ≡ 61 → ⊥) where
+module _ (w : List ℕ) (b : ℕ) (some : 0 < length w) (nl : EachLetter w → isLetter b ≡ true → ⊥) (nd : EachDigit w → isDigit b ≡ true → ⊥) (ns : (c : ℕ) → w ≡ c ∷ [] → Mark c → b ≡ 61 → ⊥) where
   no-sign : Longer w b → ⊥
   no-sign (letters l h) = nl l h
   no-sign (equals c e m h) = ns c e m h

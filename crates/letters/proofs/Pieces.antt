@@ -1,7 +1,7 @@
 -- What stands at a place of a text, by the byte there.
 use mathlib.Core.Bool.{Bool}
 use mathlib.Core.List.{List}
-use mathlib.Core.Path.{_≡_, refl, sym, ap, ap₂, _∙_}
+use mathlib.Core.Path.{_≡_, sym, ap, ap₂, _∙_}
 use Prim.Native.Nat.{ℕ, _+_}
 use native.Mathlib.Nat.{add-zero}
 use lib.Dec.{eqb}
@@ -12,7 +12,7 @@ use Rattle.letters.specs.Bytes.{leadOf}
 use Rattle.letters.specs.Cuts.{signOf, signBy, signAt, pieceBy, pieceOf}
 
 module _ (xs : List ℕ) (i : ℕ) where
-  first-at : getD (drop i xs) 0 0 ≡ getD xs i 0
+  pub first-at : getD (drop i xs) 0 0 ≡ getD xs i 0
   first-at = getD-drop i xs 0 0 ∙ ap (λ j. getD xs j 0) (add-zero i)
 
   pub sign-at : (e : Bool) → e ≡ eqb (getD xs (i + 1) 0) 61 → signBy i (signOf (getD xs i 0) e) ≡ signAt i (drop i xs)

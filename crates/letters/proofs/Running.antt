@@ -1,8 +1,8 @@
 -- The run of bytes at the front of a text, and the number that digits write.
 use mathlib.Core.Bool.{Bool, true, false, cond}
-use mathlib.Core.List.{List, [], _∷_}
-use mathlib.Core.Path.{_≡_, refl, sym, ap, ap₂, subst, _∙_}
-use Prim.Native.Nat.{ℕ, suc, _+_, _-_, _*_, _^_, _<_, _≤_}
+use mathlib.Core.List.{List, [], _∷_, _++_}
+use mathlib.Core.Path.{_≡_, refl, sym, ap, subst, _∙_}
+use Prim.Native.Nat.{ℕ, suc, _+_, _-_, _*_, _<_, _≤_}
 use native.Mathlib.Omega.{arith}
 use native.Mathlib.Numerals.{one-add}
 use borrow.Author.Needs.{needs}
@@ -17,7 +17,7 @@ use Rattle.std.proofs.shelf.Tests.{and-parts, leb-true}
 use Rattle.std.proofs.shelf.Text.{digitValue-digit}
 use Rattle.std.proofs.shelf.Ways.{tells}
 use Rattle.std.specs.Reads.{value}
-use Rattle.std.specs.Text.{In, digitValue}
+use Rattle.std.specs.Text.{In}
 use Rattle.std.specs.shelf.Lists.{All, leading}
 use Rattle.letters.specs.Bytes.{isDigit, EachDigit}
 
@@ -38,6 +38,12 @@ run-ends p (x ∷ xs) b more e = go (p x) refl (run-ends p xs b more) e
     go : (t : Bool) → p x ≡ t → (drop (leading p xs) xs ≡ b ∷ more → p b ≡ false) → drop (cond t (1 + leading p xs) 0) (x ∷ xs) ≡ b ∷ more → p b ≡ false
     go true q f h = f (ap (λ n. drop n (x ∷ xs)) (sym (one-add (leading p xs))) ∙ h)
     go false q f h = let s : x ≡ b = cc in ap p (sym s) ∙ q
+
+-- a run is all of what passes
+pub run-exact : (p : ℕ → Bool) (w after : List ℕ) → All (λ b. p b ≡ true) w → ((b : ℕ) (more : List ℕ) → after ≡ b ∷ more → p b ≡ false) → leading p (w ++ after) ≡ length w
+run-exact p [] [] a h = refl
+run-exact p [] (b ∷ more) a h = ap (λ t. cond t (1 + leading p more) 0) (h b more refl)
+run-exact p (x ∷ w) after a h = ap (λ t. cond t (1 + leading p (w ++ after)) 0) (a .0) ∙ one-add _ ∙ ap suc (run-exact p w after (a .1) h)
 
 pub run-some : (p : ℕ → Bool) (xs : List ℕ) → 0 < length xs → p (getD xs 0 0) ≡ true → 0 < leading p xs
 run-some p xs h e = let s = leading-drop-yes p xs 0 0 h e in omega arith

@@ -1,9 +1,8 @@
 -- How signs are written, and which bytes make a keyword or a sign longer.
 use mathlib.Core.Bool.{Bool, true, false, cond, _&&_}
 use mathlib.Core.List.{List, [], _∷_, _++_}
-use mathlib.Core.Logic.{_⊎_, inl, inr}
 use mathlib.Core.Path.{_≡_, refl, sym, ap, subst, _∙_}
-use Prim.Native.Nat.{ℕ, suc, _+_, _<_, _≤_}
+use Prim.Native.Nat.{ℕ, _<_}
 use native.Mathlib.Omega.{arith}
 use lib.Dec.{eqb}
 use lib.ListN.{length}
@@ -11,12 +10,13 @@ use Rattle.std.proofs.shelf.Lists.{length-push, same-from-push}
 use Rattle.std.proofs.shelf.Tests.{eqb-true, and-parts, and-from, both-ways}
 use Rattle.std.specs.shelf.Lists.{All}
 use Rattle.std.specs.declared.option.Option.{Option}
-use Rattle.std.specs.declared.option.Option.the-variants.{Some, None}
+use Rattle.std.specs.declared.option.Option.the-variants.{Some}
 use Rattle.letters.specs.declared.kind.Kind.{Kind}
-use Rattle.letters.specs.declared.kind.Kind.the-variants.{Name, Numeral, Rule, Needs, Gives, Let, In, If, Then, Else, Put, As, TheResult, Open, Close, OpenSquare, CloseSquare, Comma, Semicolon, Plus, Minus, Times, Less, AtMost, Equal, Unequal, Becomes, End}
+use Rattle.letters.specs.declared.kind.Kind.the-variants.{Open, Close, OpenSquare, CloseSquare, Comma, Semicolon, Plus, Minus, Times, Less, AtMost, Equal, Unequal, Becomes}
 use Rattle.letters.specs.Bytes.{isLetter, EachLetter}
 use Rattle.letters.specs.Cuts.{signOf}
 use Rattle.letters.specs.Kinds.{word}
+use Rattle.letters.proofs.Sorts.{Mark, Sort, bare, keyword, lone, pair, sort-of}
 
 -- a sign of one byte, with which no equals sign goes, or of two
 pub data Sign (x : ℕ) (e : Bool) (k : Kind) : Type 0 where
@@ -58,51 +58,17 @@ module _ (x : ℕ) (e : Bool) (k : Kind) where
 -- bytes that a byte makes into a keyword or a sign: letters and a letter, or one of < ! : and =
 pub data Longer (w : List ℕ) (b : ℕ) : Type 0 where
   letters : EachLetter w → isLetter b ≡ true → Longer w b
-  equals : (c : ℕ) → w ≡ c ∷ [] → (c ≡ 60) ⊎ ((c ≡ 33) ⊎ (c ≡ 58)) → b ≡ 61 → Longer w b
+  equals : (c : ℕ) → w ≡ c ∷ [] → Mark c → b ≡ 61 → Longer w b
 
 push-parts : (P : ℕ → Type 0) (w : List ℕ) (b : ℕ) → All P (w ++ b ∷ []) → All P w × P b
 push-parts P [] b h = (tt, h .0)
 push-parts P (x ∷ w) b h = let p = push-parts P w b (h .1) in ((h .0, p .0), p .1)
 
-module _ (w : List ℕ) (b : ℕ) (some : 0 < length w) where
-  nothing : w ++ b ∷ [] ≡ [] → Longer w b
-  nothing e = let h = ap length e ∙ refl in let l = length-push w b in let bad : ⊥ = omega arith in absurd bad
-
-  lone : (c : ℕ) → w ++ b ∷ [] ≡ c ∷ [] → Longer w b
-  lone c e = let p = same-from-push w [] b c e in let h = ap length (p .0) in let bad : ⊥ = omega arith in absurd bad
-
-  lettered : (v : List ℕ) → EachLetter v → w ++ b ∷ [] ≡ v → Longer w b
-  lettered v h e = let p = push-parts (λ y. isLetter y ≡ true) w b (subst EachLetter (sym e) h) in letters (p .0) (p .1)
-
-  pair : (c : ℕ) → (c ≡ 60) ⊎ ((c ≡ 33) ⊎ (c ≡ 58)) → w ++ b ∷ [] ≡ c ∷ 61 ∷ [] → Longer w b
-  pair c h e = let p = same-from-push w (c ∷ []) b 61 e in equals c (p .0) h (p .1)
-
-  pub longer : (k : Kind) → w ++ b ∷ [] ≡ word k → Longer w b
-  longer Name e = nothing e
-  longer Numeral e = nothing e
-  longer Rule e = lettered _ (refl, (refl, (refl, (refl, tt)))) e
-  longer Needs e = lettered _ (refl, (refl, (refl, (refl, (refl, tt))))) e
-  longer Gives e = lettered _ (refl, (refl, (refl, (refl, (refl, tt))))) e
-  longer Let e = lettered _ (refl, (refl, (refl, tt))) e
-  longer In e = lettered _ (refl, (refl, tt)) e
-  longer If e = lettered _ (refl, (refl, tt)) e
-  longer Then e = lettered _ (refl, (refl, (refl, (refl, tt)))) e
-  longer Else e = lettered _ (refl, (refl, (refl, (refl, tt)))) e
-  longer Put e = lettered _ (refl, (refl, (refl, tt))) e
-  longer As e = lettered _ (refl, (refl, tt)) e
-  longer TheResult e = lettered _ (refl, (refl, (refl, (refl, (refl, (refl, tt)))))) e
-  longer Open e = lone _ e
-  longer Close e = lone _ e
-  longer OpenSquare e = lone _ e
-  longer CloseSquare e = lone _ e
-  longer Comma e = lone _ e
-  longer Semicolon e = lone _ e
-  longer Plus e = lone _ e
-  longer Minus e = lone _ e
-  longer Times e = lone _ e
-  longer Less e = lone _ e
-  longer AtMost e = pair 60 (inl refl) e
-  longer Equal e = lone _ e
-  longer Unequal e = pair 33 (inr (inl refl)) e
-  longer Becomes e = pair 58 (inr (inr refl)) e
-  longer End e = nothing e
+pub longer : (w : List ℕ) (b : ℕ) → 0 < length w → (k : Kind) → w ++ b ∷ [] ≡ word k → Longer w b
+longer w b some k e = go (sort-of k)
+  where
+    go : Sort k → Longer w b
+    go (bare h) = let l = length-push w b in let n = ap length (e ∙ h) in let bad : ⊥ = omega arith in absurd bad
+    go (keyword a l h) = let p = push-parts (λ y. isLetter y ≡ true) w b (subst EachLetter (sym e) a) in letters (p .0) (p .1)
+    go (lone c h f) = let n = ap length (same-from-push w [] b c (e ∙ h) .0) in let bad : ⊥ = omega arith in absurd bad
+    go (pair c m h f) = let p = same-from-push w (c ∷ []) b 61 (e ∙ h) in equals c (p .0) m (p .1)

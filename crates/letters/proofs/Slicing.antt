@@ -1,11 +1,11 @@
 -- A part of a list that is cut where the list ends.
-use mathlib.Core.List.{List, []}
-use mathlib.Core.Path.{_≡_, refl, sym, ap, ap₂, _∙_}
-use mathlib.Core.Logic.{_⊎_, inl, inr}
-use Prim.Native.Nat.{ℕ, _-_, min, _≤_, _<_}
+use mathlib.Core.List.{List}
+use mathlib.Core.Path.{_≡_, sym, ap, _∙_}
+use mathlib.Core.Logic.{inl, inr}
+use Prim.Native.Nat.{ℕ, _-_, min}
 use native.Mathlib.Omega.{arith}
 use lib.ListN.{length, take, drop}
-use Rattle.std.proofs.shelf.Lists.{take-all, take-rest, drop-all, length-drop}
+use Rattle.std.proofs.shelf.Lists.{take-all, drop-all, length-drop}
 use Rattle.std.proofs.shelf.Tests.{cases-lt}
 
 module _ {X : Type 0} where

@@ -7,11 +7,9 @@ use native.Mathlib.Nat.{add-zero, add-suc, suc-add}
 use native.Mathlib.Numerals.{add-one}
 use native.Mathlib.Omega.{arith}
 use lib.ListN.{length, getD, take, drop}
-use Rattle.std.proofs.shelf.Lists.{at-drop-more, at-drop-all, drop-drop, append-nil, length-take-le, take-append-drop}
+use Rattle.std.proofs.shelf.Lists.{at-drop-all, drop-more, drop-drop, length-drop, append-nil, length-take-le, take-append-drop}
 use Rattle.std.proofs.shelf.Tests.{le-leb, lt-leb}
 use Rattle.std.specs.declared.option.Option.{Option}
-use Rattle.std.specs.declared.option.Option.the-variants.{Some, None}
-use Rattle.std.specs.declared.result.Result.{Result}
 use Rattle.std.specs.declared.result.Result.the-variants.{Ok, Err}
 use Rattle.letters.specs.declared.token.Token.{Token}
 use Rattle.letters.specs.declared.misspelt.Misspelt.{Misspelt}
@@ -19,6 +17,7 @@ use Rattle.letters.specs.declared.misspelt.Misspelt.the-variants.{Length, Lett
 use Rattle.letters.specs.declared.cutting.Piece.{Piece}
 use Rattle.letters.specs.declared.cutting.Piece.the-variants.{Blank, Part, Bad}
 use Rattle.letters.specs.Cuts.{pieceOf, openAfter, Cut, done, stop, put, putBy, cutBy, cutFrom, cutOf, laid}
+use Rattle.letters.proofs.Pieces.{first-at}
 
 pub skips : (n o i : ℕ) (bs : List ℕ) → cutFrom n o i bs ≡ cutFrom 0 o (i + n) (drop n bs)
 unfolding cutFrom
@@ -27,31 +26,49 @@ skips (suc n) o i [] = refl
 skips zero o i (b ∷ bs) = ap (λ j. cutFrom 0 o j (b ∷ bs)) (sym (add-zero i))
 skips (suc n) o i (b ∷ bs) = skips n o (suc i) bs ∙ ap (λ j. cutFrom 0 o j (drop n bs)) (suc-add i n ∙ sym (add-suc i n))
 
-pub cut-head : (o i b : ℕ) (bs xs : List ℕ) (p : Piece) → xs ≡ b ∷ bs → p ≡ pieceOf i xs → cutFrom 0 o i xs ≡ cutBy p i b o (λ n d. cutFrom n d (suc i) bs)
-unfolding cutFrom
-cut-head o i b bs xs p e h = ap (cutFrom 0 o i) e ∙ ap (λ q. cutBy q i b o (λ n d. cutFrom n d (suc i) bs)) (ap (pieceOf i) (sym e) ∙ sym h)
+-- by what stands at the front
+module _ (i o : ℕ) (xs : List ℕ) (h : 0 < length xs) where
+  front : (p : Piece) → p ≡ pieceOf i xs → cutFrom 0 o i xs ≡ cutBy p i (getD xs 0 0) o (λ n d. cutFrom n d (suc i) (drop 1 xs))
+  unfolding cutFrom
+  front p e = ap (cutFrom 0 o i) (drop-more xs 0 0 h) ∙ ap (λ q. cutBy q i (getD xs 0 0) o (λ n d. cutFrom n d (suc i) (drop 1 xs))) (ap (pieceOf i) (sym (drop-more xs 0 0 h)) ∙ sym e)
 
+  pub front-blank : Blank ≡ pieceOf i xs → cutFrom 0 o i xs ≡ cutFrom 0 o (suc i) (drop 1 xs)
+  front-blank e = front Blank e
+
+  pub front-bad : Bad ≡ pieceOf i xs → cutFrom 0 o i xs ≡ stop (Letter i)
+  front-bad e = front Bad e
+
+  pub front-full : (t : Token) (m : Misspelt) → Part t ≡ pieceOf i xs → Err m ≡ openAfter (getD xs 0 0) o i → cutFrom 0 o i xs ≡ stop m
+  front-full t m e q = front (Part t) e ∙ ap (λ r. putBy t r (λ d. cutFrom (t .size - 1) d (suc i) (drop 1 xs))) (sym q)
+
+  pub front-part : (t : Token) (d : ℕ) → Part t ≡ pieceOf i xs → 0 < t .size → Ok d ≡ openAfter (getD xs 0 0) o i → cutFrom 0 o i xs ≡ put t (cutFrom 0 d (i + t .size) (drop (t .size) xs))
+  front-part t d e k q =
+      front (Part t) e ∙ ap (λ r. putBy t r (λ d. cutFrom (t .size - 1) d (suc i) (drop 1 xs))) (sym q)
+      ∙ ap (put t) (skips (t .size - 1) d (suc i) (drop 1 xs) ∙ ap₂ (cutFrom 0 d) (omega arith) (drop-drop (t .size - 1) 1 xs ∙ ap (λ j. drop j xs) (omega arith)))
+
+-- by what stands at a place
 module _ (xs : List ℕ) (i o : ℕ) (h : i < length xs) where
-  here : (p : Piece) → p ≡ pieceOf i (drop i xs) → cutFrom 0 o i (drop i xs) ≡ cutBy p i (getD xs i 0) o (λ n d. cutFrom n d (suc i) (drop (i + 1) xs))
-  here p e = cut-head o i (getD xs i 0) (drop (i + 1) xs) (drop i xs) p (at-drop-more (λ ys. ys) xs i 0 h) e
+  some : 0 < length (drop i xs)
+  some = let l = length-drop i xs in omega arith
 
   pub cut-blank : Blank ≡ pieceOf i (drop i xs) → cutFrom 0 o i (drop i xs) ≡ cutFrom 0 o (i + 1) (drop (i + 1) xs)
-  cut-blank e = here Blank e ∙ ap (λ j. cutFrom 0 o j (drop (i + 1) xs)) (sym (add-one i))
+  cut-blank e = front-blank i o (drop i xs) some e ∙ ap₂ (cutFrom 0 o) (sym (add-one i)) (drop-drop 1 i xs)
 
   pub cut-bad : Bad ≡ pieceOf i (drop i xs) → cutFrom 0 o i (drop i xs) ≡ stop (Letter i)
-  cut-bad e = here Bad e
+  cut-bad e = front-bad i o (drop i xs) some e
 
   pub cut-full : (t : Token) (m : Misspelt) → Part t ≡ pieceOf i (drop i xs) → Err m ≡ openAfter (getD xs i 0) o i → cutFrom 0 o i (drop i xs) ≡ stop m
-  cut-full t m e q = here (Part t) e ∙ ap (λ r. putBy t r (λ d. cutFrom (t .size - 1) d (suc i) (drop (i + 1) xs))) (sym q)
+  cut-full t m e q = front-full i o (drop i xs) some t m e (q ∙ ap (λ b. openAfter b o i) (sym (first-at xs i)))
 
   pub cut-part : (t : Token) (d : ℕ) → Part t ≡ pieceOf i (drop i xs) → 0 < t .size → Ok d ≡ openAfter (getD xs i 0) o i → cutFrom 0 o i (drop i xs) ≡ put t (cutFrom 0 d (i + t .size) (drop (i + t .size) xs))
-  cut-part t d e k q =
-      here (Part t) e ∙ ap (λ r. putBy t r (λ d. cutFrom (t .size - 1) d (suc i) (drop (i + 1) xs))) (sym q)
-      ∙ ap (put t) (skips (t .size - 1) d (suc i) (drop (i + 1) xs) ∙ ap₂ (cutFrom 0 d) (omega arith) (drop-drop (t .size - 1) (i + 1) xs ∙ ap (λ j. drop j xs) (omega arith)))
+  cut-part t d e k q = front-part i o (drop i xs) some t d e k (q ∙ ap (λ b. openAfter b o i) (sym (first-at xs i))) ∙ ap (λ (l : List ℕ). put t (cutFrom 0 d (i + t .size) l)) (drop-drop (t .size) i xs)
+
+pub cut-none : (i o : ℕ) → cutFrom 0 o i [] ≡ done
+unfolding cutFrom
+cut-none i o = refl
 
 pub cut-end : (xs : List ℕ) (i o : ℕ) → length xs ≤ i → cutFrom 0 o i (drop i xs) ≡ done
-unfolding cutFrom
-cut-end xs i o h = at-drop-all (cutFrom 0 o i) xs i h
+cut-end xs i o h = at-drop-all (cutFrom 0 o i) xs i h ∙ cut-none i o
 
 -- tokens before a cut
 abbrev pub before : List Token → Cut → Cut

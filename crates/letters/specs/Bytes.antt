@@ -21,6 +21,12 @@ isLetter b = (leb 97 b && leb b 122) || eqb b 95
 abbrev pub isDigit : ℕ → Bool
 isDigit b = leb 48 b && leb b 57
 
+abbrev pub isOpening : ℕ → Bool
+isOpening b = eqb b 40 || eqb b 91
+
+abbrev pub isClosing : ℕ → Bool
+isClosing b = eqb b 41 || eqb b 93
+
 -- what a byte begins
 abbrev pub leadOf : ℕ → Lead
 leadOf b = cond (isBlank b) Gap (cond (isLetter b) Word (cond (isDigit b) Number Sign))

@@ -1,5 +1,5 @@
 -- How a text is cut into tokens, from its first byte to its last.
-use mathlib.Core.Bool.{Bool, cond, _&&_, _||_}
+use mathlib.Core.Bool.{Bool, cond, _&&_}
 use mathlib.Core.List.{List, [], _∷_, _++_}
 use Prim.Native.Nat.{ℕ, zero, suc, _+_, _-_}
 use lib.Dec.{eqb, leb, ltb}
@@ -19,7 +19,7 @@ use Rattle.letters.specs.declared.cutting.Lead.{Lead}
 use Rattle.letters.specs.declared.cutting.Lead.the-variants.{Gap, Word, Number, Sign}
 use Rattle.letters.specs.declared.cutting.Piece.{Piece}
 use Rattle.letters.specs.declared.cutting.Piece.the-variants.{Blank, Part, Bad}
-use Rattle.letters.specs.Bytes.{isLetter, isDigit, leadOf}
+use Rattle.letters.specs.Bytes.{isLetter, isDigit, isOpening, isClosing, leadOf}
 use Rattle.letters.specs.Kinds.{word, keywordOf}
 use Rattle.letters.specs.Tokens.{tokenOf}
 
@@ -64,7 +64,7 @@ pieceOf i bs = pieceBy (leadOf (getD bs 0 0)) i bs
 
 -- how many brackets are open after the token that begins with this byte; the 65th may not open
 abbrev pub openAfter : ℕ → ℕ → ℕ → Result ℕ Misspelt
-openAfter b depth i = cond (eqb b 40 || eqb b 91) (cond (ltb depth 64) (Ok (depth + 1)) (Err (Brackets i))) (Ok (cond (eqb b 41 || eqb b 93) (depth - 1) depth))
+openAfter b depth i = cond (isOpening b) (cond (ltb depth 64) (Ok (depth + 1)) (Err (Brackets i))) (Ok (cond (isClosing b) (depth - 1) depth))
 
 -- the tokens up to the end of the text, or up to the first fault
 pub record Cut : Type 0 where

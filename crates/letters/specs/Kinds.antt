@@ -6,53 +6,43 @@ use lib.Chars.{codes}
 use lib.Dec.{eqb}
 use Rattle.std.specs.shelf.Text.{sameBytes}
 use Rattle.letters.specs.declared.kind.Kind.{Kind}
-use Rattle.letters.specs.declared.kind.Kind.the-variants.{Name, Numeral, Rule, Needs, Gives, Let, In, If, Then, Else, Put, As, TheResult, Open, Close, OpenSquare, CloseSquare, Comma, Semicolon, Plus, Minus, Times, Less, AtMost, Equal, Unequal, Becomes, End}
+use Rattle.letters.specs.declared.kind.Kind.the-variants.{Name, Numeral, End, Open, Close, OpenSquare, CloseSquare, Comma, Semicolon, Plus, Minus, Times, Less, AtMost, Equal, Unequal, Becomes, Rule, Needs, Gives, Let, In, If, Then, Else, Put, As, TheResult}
 
 abbrev pub number : Kind → ℕ
 number Name = 0
 number Numeral = 1
-number Rule = 2
-number Needs = 3
-number Gives = 4
-number Let = 5
-number In = 6
-number If = 7
-number Then = 8
-number Else = 9
-number Put = 10
-number As = 11
-number TheResult = 12
-number Open = 13
-number Close = 14
-number OpenSquare = 15
-number CloseSquare = 16
-number Comma = 17
-number Semicolon = 18
-number Plus = 19
-number Minus = 20
-number Times = 21
-number Less = 22
-number AtMost = 23
-number Equal = 24
-number Unequal = 25
-number Becomes = 26
-number End = 27
+number End = 2
+number Open = 3
+number Close = 4
+number OpenSquare = 5
+number CloseSquare = 6
+number Comma = 7
+number Semicolon = 8
+number Plus = 9
+number Minus = 10
+number Times = 11
+number Less = 12
+number AtMost = 13
+number Equal = 14
+number Unequal = 15
+number Becomes = 16
+number Rule = 17
+number Needs = 18
+number Gives = 19
+number Let = 20
+number In = 21
+number If = 22
+number Then = 23
+number Else = 24
+number Put = 25
+number As = 26
+number TheResult = 27
 
 -- the bytes of a keyword or a sign; a name, a numeral and the end have none of their own
 abbrev pub word : Kind → List ℕ
 word Name = []
 word Numeral = []
-word Rule = codes "rule"
-word Needs = codes "needs"
-word Gives = codes "gives"
-word Let = codes "let"
-word In = codes "in"
-word If = codes "if"
-word Then = codes "then"
-word Else = codes "else"
-word Put = codes "put"
-word As = codes "as"
-word TheResult = codes "result"
+word End = []
 word Open = codes "("
 word Close = codes ")"
 word OpenSquare = codes "["
@@ -67,7 +57,17 @@ word AtMost = codes "<="
 word Equal = codes "="
 word Unequal = codes "!="
 word Becomes = codes ":="
-word End = []
+word Rule = codes "rule"
+word Needs = codes "needs"
+word Gives = codes "gives"
+word Let = codes "let"
+word In = codes "in"
+word If = codes "if"
+word Then = codes "then"
+word Else = codes "else"
+word Put = codes "put"
+word As = codes "as"
+word TheResult = codes "result"
 
 abbrev pub keywords : List Kind
 keywords = Rule ∷ Needs ∷ Gives ∷ Let ∷ In ∷ If ∷ Then ∷ Else ∷ Put ∷ As ∷ TheResult ∷ []

@@ -1,9 +1,9 @@
 -- The law of letters: the tokens put end to end, with blanks between, are the text, and none could be longer.
-use mathlib.Core.Bool.{true}
+use mathlib.Core.Bool.{true, false}
 use mathlib.Core.List.{List, [], _∷_, _++_}
 use mathlib.Core.Path.{_≡_}
 use Prim.Native.Nat.{ℕ, suc, _+_, _<_, _≤_}
-use lib.ListN.{length, take, drop}
+use lib.ListN.{length, getD, take, drop}
 use Rattle.std.specs.Reads.{value}
 use Rattle.std.specs.declared.result.Result.{Result}
 use Rattle.std.specs.declared.result.Result.the-variants.{Ok, Err}
@@ -12,7 +12,7 @@ use Rattle.letters.specs.declared.kind.Kind.the-variants.{Name, Numeral}
 use Rattle.letters.specs.declared.token.Token.{Token}
 use Rattle.letters.specs.declared.misspelt.Misspelt.{Misspelt}
 use Rattle.letters.specs.declared.misspelt.Misspelt.the-variants.{Length, Letter, Brackets}
-use Rattle.letters.specs.Bytes.{isBlank, isLetter, isDigit, EachLetter, EachDigit}
+use Rattle.letters.specs.Bytes.{isBlank, isLetter, isDigit, isOpening, EachLetter, EachDigit}
 use Rattle.letters.specs.Kinds.{word, keywordOf}
 
 -- these bytes write the token: a name, a numeral, or a keyword or sign as it is written
@@ -37,9 +37,13 @@ pub data Reads : ℕ → List ℕ → List Token → List ℕ → Type 0 where
   blank : {i b : ℕ} {bs left : List ℕ} {ts : List Token} → isBlank b ≡ true → Reads (suc i) bs ts left → Reads i (b ∷ bs) ts left
   token : {i : ℕ} {w bs left : List ℕ} {t : Token} {ts : List Token} → t .place ≡ i → t .size ≡ length w → 0 < length w → Spelt t w → Longest w bs → Reads (i + length w) bs ts left → Reads i (w ++ bs) (t ∷ ts) left
 
--- what is told of a text by its answer and the tokens that are written: all of it is read, or what stands before the fault
+-- neither a blank nor a token stands at the front
+abbrev pub Stuck : List ℕ → Type 0
+Stuck left = (isBlank (getD left 0 0) ≡ false) × ((t : Token) (w after : List ℕ) → left ≡ w ++ after → 0 < length w → Spelt t w → Longest w after → ⊥)
+
+-- what an answer and the tokens that are written tell of the text: they read it, as no others do, or they read what stands before the fault
 abbrev pub Told : List ℕ → Result ℕ Misspelt → List Token → Type 0
-Told text (Ok n) ts = Reads 0 text (take n ts) []
+Told text (Ok n) ts = Reads 0 text (take n ts) [] × ((us : List Token) → Reads 0 text us [] → us ≡ take n ts)
 Told text (Err Length) ts = 16384 < length text
-Told text (Err (Letter i)) ts = (i < length text) × ((n : ℕ) × Reads 0 text (take n ts) (drop i text))
-Told text (Err (Brackets i)) ts = (i < length text) × ((n : ℕ) × Reads 0 text (take n ts) (drop i text))
+Told text (Err (Letter i)) ts = (i < length text) × ((n : ℕ) × Reads 0 text (take n ts) (drop i text)) × Stuck (drop i text)
+Told text (Err (Brackets i)) ts = (i < length text) × ((n : ℕ) × Reads 0 text (take n ts) (drop i text)) × (isOpening (getD text i 0) ≡ true)

@@ -1,22 +1,13 @@
 ghost use mathlib.Core.Path.{_≡_};
 ghost use Rattle.letters.specs.Kinds.{number, word, sameKind, keywordOf};
 
-// What a token is. A keyword is added here, in `word` and in `KEYWORDS`.
+// What a token is. A keyword is added at the end of the enum, of `KEYWORDS` and of `word`.
 #[derive(Clone, Copy)]
 pub enum Kind {
     Name,
     Numeral,
-    Rule,
-    Needs,
-    Gives,
-    Let,
-    In,
-    If,
-    Then,
-    Else,
-    Put,
-    As,
-    TheResult,
+    // What stands past the last token.
+    End,
     Open,
     Close,
     OpenSquare,
@@ -31,8 +22,17 @@ pub enum Kind {
     Equal,
     Unequal,
     Becomes,
-    // What stands past the last token.
-    End,
+    Rule,
+    Needs,
+    Gives,
+    Let,
+    In,
+    If,
+    Then,
+    Else,
+    Put,
+    As,
+    TheResult,
 }
 
 pub const KEYWORDS: [Kind; 11] = [
@@ -63,17 +63,7 @@ impl Kind {
         match self {
             Kind::Name => "",
             Kind::Numeral => "",
-            Kind::Rule => "rule",
-            Kind::Needs => "needs",
-            Kind::Gives => "gives",
-            Kind::Let => "let",
-            Kind::In => "in",
-            Kind::If => "if",
-            Kind::Then => "then",
-            Kind::Else => "else",
-            Kind::Put => "put",
-            Kind::As => "as",
-            Kind::TheResult => "result",
+            Kind::End => "",
             Kind::Open => "(",
             Kind::Close => ")",
             Kind::OpenSquare => "[",
@@ -88,7 +78,17 @@ impl Kind {
             Kind::Equal => "=",
             Kind::Unequal => "!=",
             Kind::Becomes => ":=",
-            Kind::End => "",
+            Kind::Rule => "rule",
+            Kind::Needs => "needs",
+            Kind::Gives => "gives",
+            Kind::Let => "let",
+            Kind::In => "in",
+            Kind::If => "if",
+            Kind::Then => "then",
+            Kind::Else => "else",
+            Kind::Put => "put",
+            Kind::As => "as",
+            Kind::TheResult => "result",
         }
     }
 

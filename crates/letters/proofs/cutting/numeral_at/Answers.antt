@@ -1,7 +1,7 @@
 use mathlib.Core.Path.{_≡_, sym, subst}
 use Prim.Native.Nat.{_+_, _-_}
 use native.Mathlib.Omega.{arith}
-use lib.ListN.{length, take, drop}
+use lib.ListN.{take, drop}
 use Rattle.std.proofs.shelf.Lists.{length-take}
 use Rattle.std.specs.shelf.Lists.{leading}
 use Rattle.letters.specs.Bytes.{isDigit, EachDigit}

@@ -1,4 +1,4 @@
-use mathlib.Core.Path.{_≡_, _∙_}
+use mathlib.Core.Path.{_∙_}
 use Rattle.letters.specs.declared.cutting.Lead.the-variants.{Gap, Word, Number, Sign}
 use Rattle.letters.proofs.Pieces.{piece-at}
 use Rattle.letters.proofs.cutting.piece_at.Needs as need

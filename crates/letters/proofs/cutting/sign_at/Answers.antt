@@ -1,7 +1,5 @@
-use mathlib.Core.Path.{_≡_, refl, sym, ap, ap₂, _∙_}
-use Rattle.std.specs.declared.option.Option.{Option}
+use mathlib.Core.Path.{sym, ap, _∙_}
 use lib.ListN.{length}
-use Rattle.letters.specs.declared.kind.Kind.{Kind}
 use Rattle.letters.specs.Cuts.{signBy}
 use Rattle.letters.specs.Tokens.{tokenOf}
 use Rattle.letters.specs.declared.cutting.Piece.the-variants.{Part}

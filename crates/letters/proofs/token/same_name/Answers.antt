@@ -1,5 +1,4 @@
-use mathlib.Core.Path.{_≡_, ap₂, _∙_}
-use borrow.Author.Needs.{needs}
+use mathlib.Core.Path.{ap₂, _∙_}
 use Rattle.std.proofs.shelf.Equals.{matches-decides, sameBytes-decides}
 use Rattle.std.proofs.shelf.Ways.{same-from-decides}
 use Rattle.std.specs.shelf.Text.{sameBytes}

@@ -1,4 +1,3 @@
-use mathlib.Core.Path.{_≡_}
 use Rattle.letters.specs.Kinds.{sameKind}
 use Rattle.letters.proofs.kind.Kind.is.Needs as need
 
