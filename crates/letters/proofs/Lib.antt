@@ -1,0 +1,11 @@
+pub mod Exact
+pub mod Good
+pub mod Numbering
+pub mod Pieces
+pub mod Running
+pub mod Signs
+mod Slicing
+pub mod Sorts
+pub mod Steps
+pub mod Telling
+pub mod Writing

@@ -1,0 +1,6 @@
+pub mod Kinds
+pub mod Misspellings
+pub mod Tokens
+pub mod Bytes
+pub mod Cuts
+pub mod Spelling
