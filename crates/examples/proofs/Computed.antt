@@ -10,6 +10,7 @@ use Rattle.domains.specs.Linear.{weigh, numbers, kinds}
 use Rattle.domains.specs.Modes.{occursIn, broken}
 use Rattle.provers.specs.Derivations.{allModest, combine}
 use Rattle.provers.specs.Elimination.{pushAll, originals, without, withoutAll, from, firstBelow, refutation}
+use Rattle.language.proofs.Examples.{by-computing}
 use Rattle.examples.specs.Table.{Table}
 
 pub table : Table
@@ -24,4 +25,5 @@ table = record {
   modes-top = refl;
   modes-case = refl;
   half-unproposed = refl;
+  sheets = by-computing;
 }

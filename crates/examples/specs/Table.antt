@@ -15,6 +15,7 @@ use Rattle.domains.specs.Faults.{Outcome, fault}
 use Rattle.domains.specs.Linear.{linear}
 use Rattle.domains.specs.Modes.{modes}
 use Rattle.provers.specs.Elimination.{fourierMotzkin}
+use Rattle.language.specs.Examples.{Worked}
 
 abbrev pub zeros : List ℤ
 zeros = replicate 15 (pos 0)
@@ -59,3 +60,5 @@ pub record Table : Type 0 where
   pub modes-case : modes [] upTo14 [] ≡ fault Case
   -- no whole number is one half, but elimination counts in fractions too
   pub half-unproposed : fourierMotzkin half never ≡ None
+  -- the worked sheets: what they owe, how their runs end
+  pub sheets : Worked

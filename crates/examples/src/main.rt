@@ -52,7 +52,7 @@ fn run(rt: &LibcRuntime) -> Result<(), AnyError> {
     let n = EXAMPLES.len();
     println!(
         rt,
-        "{n} examples, each also a theorem about the definitions"
+        "{n} examples; these and the worked sheets are theorems about the definitions"
     )?;
     Ok(())
 }
