@@ -15,7 +15,7 @@ pub struct Sample {
 }
 
 impl Sample {
-    pub fn new() -> Sample {
+    pub(crate) fn new() -> Sample {
         Sample { state: 1 }
     }
 
@@ -28,7 +28,7 @@ impl Sample {
     }
 
     // Some of one quantity less some of another is at most a small number.
-    pub fn row(&mut self, quantities: u32) -> Option<Row> {
+    pub(crate) fn row(&mut self, quantities: u32) -> Option<Row> {
         let up = (self.below(quantities) % 16) as usize;
         let down = (self.below(quantities) % 16) as usize;
         let mut coefs = [0i32; 16];

@@ -59,7 +59,7 @@ impl Tally {
     }
 
     // None only where a sample is past the limits of a row.
-    pub fn of(size: Size, questions: u32) -> Option<Tally> {
+    pub(crate) fn of(size: Size, questions: u32) -> Option<Tally> {
         let mut tally = Tally {
             proposed: 0,
             good: 0,

@@ -136,7 +136,7 @@ fn answer_text(rt: &LibcRuntime, question: &mut ByHand, line: &str) -> io::Resul
 }
 
 // Answers one line; a carriage return before its end is not part of it.
-pub fn answer_line(rt: &LibcRuntime, question: &mut ByHand, bytes: &[u8]) -> io::Result<()> {
+pub(crate) fn answer_line(rt: &LibcRuntime, question: &mut ByHand, bytes: &[u8]) -> io::Result<()> {
     let Ok(text) = from_utf8(bytes) else {
         println!(rt, "> (not text)")?;
         return print_answer(rt, Err(Complaint::NoText));

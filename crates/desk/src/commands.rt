@@ -138,7 +138,7 @@ fn read_verify(heap: Global, rest: &str) -> Result<Command, Complaint> {
     Ok(Command::Verify(domain, certificate))
 }
 
-pub fn read_command(heap: Global, line: &str) -> Result<Command, Complaint> {
+pub(crate) fn read_command(heap: Global, line: &str) -> Result<Command, Complaint> {
     let (word, after) = first_word(line);
     let rest = after.unwrap_or("");
     if word == "question-new" {

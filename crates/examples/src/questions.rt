@@ -22,7 +22,7 @@ pub enum Asked {
 }
 
 impl Asked {
-    pub fn word(self) -> &'static str {
+    pub(crate) fn word(self) -> &'static str {
         match self {
             Asked::Linear => "linear",
             Asked::Modes => "modes",
@@ -142,7 +142,7 @@ pub enum Got {
     Proposal(Option<usize>),
 }
 
-pub fn word_of(got: Got) -> &'static str {
+pub(crate) fn word_of(got: Got) -> &'static str {
     match got {
         Got::Outcome(Ok(())) => "good",
         Got::Outcome(Err(fault)) => fault.reason.word(),
@@ -162,7 +162,7 @@ fn put(asked: Asked, question: Question<'_>, certificate: &[u32]) -> Got {
     }
 }
 
-pub fn answer_to(heap: Global, example: Example) -> Result<Got, AnyError> {
+pub(crate) fn answer_to(heap: Global, example: Example) -> Result<Got, AnyError> {
     let facts = rows_of(heap, example.facts)?;
     let goals = rows_of(heap, example.goal)?;
     let numbers = numbers_of(heap, example.certificate)?;

@@ -13,7 +13,7 @@ use crate::numbers::divide;
 use crate::numbers::divide_count;
 use rows::QUANTITIES;
 
-pub fn blend_coefs(a: u32, xs: &[i32; 16], b: u32, ys: &[i32; 16]) -> [i64; 16]
+pub(crate) fn blend_coefs(a: u32, xs: &[i32; 16], b: u32, ys: &[i32; 16]) -> [i64; 16]
     requires { ⌜ a ≤ 2147483648 ⌝ ∗ ⌜ b < 2147483648 ⌝ }
     ensures { λ r. ⌜ r ≡ map (λ j. blend a b (getD (now (xs .entry)) j (pos 0)) (getD (now (ys .entry)) j (pos 0))) (counting 0 16) ⌝ }
 {
@@ -24,7 +24,7 @@ pub fn blend_coefs(a: u32, xs: &[i32; 16], b: u32, ys: &[i32; 16]) -> [i64; 16]
     sums
 }
 
-pub fn blend_times(a: u32, xs: &[u32; 25], b: u32, ys: &[u32; 25]) -> [u64; 25]
+pub(crate) fn blend_times(a: u32, xs: &[u32; 25], b: u32, ys: &[u32; 25]) -> [u64; 25]
     requires { ⌜ a ≤ 2147483648 ⌝ ∗ ⌜ b < 2147483648 ⌝ }
     ensures { λ r. ⌜ r ≡ map (λ i. a * getD (now (xs .entry)) i 0 + b * getD (now (ys .entry)) i 0) (counting 0 25) ⌝ }
 {
@@ -35,7 +35,7 @@ pub fn blend_times(a: u32, xs: &[u32; 25], b: u32, ys: &[u32; 25]) -> [u64; 25]
     sums
 }
 
-pub fn divide_coefs(g: u64, xs: &[i64; 16]) -> Option<[i32; 16]>
+pub(crate) fn divide_coefs(g: u64, xs: &[i64; 16]) -> Option<[i32; 16]>
     requires { ⌜ 0 < g ⌝ }
     ensures { λ r. ⌜ r ≡ kept allSmall (map (quotient g) (now (xs .entry))) ⌝ }
 {
@@ -46,7 +46,7 @@ pub fn divide_coefs(g: u64, xs: &[i64; 16]) -> Option<[i32; 16]>
     Some(quotients)
 }
 
-pub fn divide_times(g: u64, xs: &[u64; 25]) -> Option<[u32; 25]>
+pub(crate) fn divide_times(g: u64, xs: &[u64; 25]) -> Option<[u32; 25]>
     requires { ⌜ 0 < g ⌝ }
     ensures { λ r. ⌜ r ≡ kept allModest (map (λ n. n / g) (now (xs .entry))) ⌝ }
 {

@@ -66,7 +66,7 @@ fn push_goal(i: usize, goal: &Row, into: &mut WorkList) -> Option<()>
 }
 
 // Puts the facts of kind at most and the negated goal on the list.
-pub fn begin(question: Question<'_>, into: &mut WorkList) -> Option<()>
+pub(crate) fn begin(question: Question<'_>, into: &mut WorkList) -> Option<()>
     requires { ⌜ length (now (question .facts)) ≤ 24 ⌝ }
     ensures { λ r. ⌜ answered r (entries (now (into .exit))) ≡ pushAll (entries (now (into .entry))) (originals 0 (now (question .entry .facts)) (now (question .entry .goal))) ⌝ }
 {

@@ -28,7 +28,7 @@ fn reduce(g: u64, coefs: &[i64; 16], bound: i64, times: &[u64; 25]) -> Option<De
 }
 
 // The row without q that follows from p, which is positive there, and m, which is negative there.
-pub fn combined(q: usize, p: &Derived, m: &Derived) -> Option<Derived>
+pub(crate) fn combined(q: usize, p: &Derived, m: &Derived) -> Option<Derived>
     requires quantity { ⌜ q < 16 ⌝ }
     requires positive { ⌜ pos 0 <ℤ coefAt q (now p) ⌝ }
     ensures { λ r. ⌜ r ≡ combine q (now (p .entry)) (now (m .entry)) ⌝ }

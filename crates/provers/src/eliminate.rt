@@ -90,7 +90,7 @@ fn eliminate(q: usize, rows: &[Derived], into: &mut WorkList) -> Option<()>
 }
 
 // Two quantities a turn, so that the rows go to the spare list and back and no list is copied.
-pub fn eliminate_all(rows: &mut WorkList, spare: &mut WorkList) -> Option<()>
+pub(crate) fn eliminate_all(rows: &mut WorkList, spare: &mut WorkList) -> Option<()>
     ensures { λ r. ⌜ answered r (entries (now (rows .exit))) ≡ withoutAll (from 0) (entries (now (rows .entry))) ⌝ }
 {
     for turn in 0..8 {
@@ -101,7 +101,7 @@ pub fn eliminate_all(rows: &mut WorkList, spare: &mut WorkList) -> Option<()>
 }
 
 // The multipliers of the first row with a bound below 0.
-pub fn first_below(rows: &[Derived]) -> Option<[u32; 25]>
+pub(crate) fn first_below(rows: &[Derived]) -> Option<[u32; 25]>
     ensures { λ r. ⌜ r ≡ firstBelow (now (rows .entry)) ⌝ }
 {
     for row in rows {

@@ -12,7 +12,7 @@ pub const MOST_TIMES: u64 = 1_000_000;
 pub const MOST_SIZE: u64 = ROW_LIMIT as u64;
 
 // a times x plus b times y: the sum always fits.
-pub fn blend(a: u32, x: i32, b: u32, y: i32) -> i64
+pub(crate) fn blend(a: u32, x: i32, b: u32, y: i32) -> i64
     requires { ⌜ a ≤ 2147483648 ⌝ ∗ ⌜ b < 2147483648 ⌝ }
     ensures { λ r. ⌜ r ≡ blend a b x y ⌝ }
 {
@@ -20,7 +20,7 @@ pub fn blend(a: u32, x: i32, b: u32, y: i32) -> i64
 }
 
 // The same of two multipliers.
-pub fn blend_count(a: u32, x: u32, b: u32, y: u32) -> u64
+pub(crate) fn blend_count(a: u32, x: u32, b: u32, y: u32) -> u64
     requires { ⌜ a ≤ 2147483648 ⌝ ∗ ⌜ b < 2147483648 ⌝ }
     ensures { λ r. ⌜ r ≡ a * x + b * y ⌝ }
 {
@@ -28,7 +28,7 @@ pub fn blend_count(a: u32, x: u32, b: u32, y: u32) -> u64
 }
 
 // z divided by g, where that keeps a row's limits.
-pub fn divide(g: u64, z: i64) -> Option<i32>
+pub(crate) fn divide(g: u64, z: i64) -> Option<i32>
     requires { ⌜ 0 < g ⌝ }
     ensures { λ r. ⌜ r ≡ kept small (quotient g z) ⌝ }
 {
@@ -44,7 +44,7 @@ pub fn divide(g: u64, z: i64) -> Option<i32>
 }
 
 // A multiplier divided by g, where that keeps the limit.
-pub fn divide_count(g: u64, n: u64) -> Option<u32>
+pub(crate) fn divide_count(g: u64, n: u64) -> Option<u32>
     requires { ⌜ 0 < g ⌝ }
     ensures { λ r. ⌜ r ≡ kept modest (n / g) ⌝ }
 {
