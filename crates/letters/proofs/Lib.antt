@@ -2,6 +2,7 @@ pub mod Exact
 pub mod Good
 pub mod Numbering
 pub mod Pieces
+pub mod Places
 pub mod Running
 pub mod Signs
 mod Slicing
