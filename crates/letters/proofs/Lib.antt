@@ -1,4 +1,6 @@
+pub mod Depths
 pub mod Exact
+pub mod Finishing
 pub mod Good
 pub mod Numbering
 pub mod Pieces

@@ -1,9 +1,9 @@
 -- What a reading says of each token.
 use mathlib.Core.List.{List, [], _∷_, _++_}
-use mathlib.Core.Path.{_≡_, sym, ap, ap₂, subst, _∙_}
+use mathlib.Core.Path.{_≡_, sym, ap, subst, _∙_}
 use Prim.Native.Nat.{ℕ, suc, _+_, _<_, _≤_}
 use native.Mathlib.Omega.{arith}
-use lib.ListN.{length, take, drop}
+use lib.ListN.{length, take}
 use Rattle.std.proofs.shelf.Lists.{append-assoc, drop-at, take-at, length-append, length-push}
 use Rattle.std.specs.shelf.Lists.{All}
 use Rattle.letters.specs.declared.token.Token.{Token}

@@ -7,7 +7,7 @@ ghost use Rattle.std.specs.Vec.{made};
 ghost use Rattle.std.specs.shelf.Lists.{leading};
 ghost use Rattle.letters.specs.Bytes.{EachDigit, leadOf, ofRun};
 ghost use Rattle.letters.specs.Cuts.{signOf, openAfter, wordAt, numeralAt, signAt, pieceOf, cutOf, answer, laid};
-ghost use Rattle.letters.specs.Spelling.{Told};
+ghost use Rattle.letters.specs.Spelling.{Told, Bracketed};
 use crate::kind::Kind;
 use crate::misspelt::Misspelt;
 use crate::token::Token;
@@ -206,6 +206,7 @@ pub fn cut(text: &[u8], tokens: &mut [Token; 16384]) -> Result<usize, Misspelt>
     ensures value { λ r. ⌜ r ≡ answer (cutOf (now (text .entry))) ⌝ }
     ensures written { λ r. ⌜ now (tokens .exit) ≡ laid (cutOf (now (text .entry)) .tokens) (now (tokens .entry)) ⌝ }
     ensures few { λ r. ⌜ made r (λ n. n ≤ 16384) ⌝ }
+    ensures brackets { λ r. ⌜ Bracketed (now (text .entry)) r ⌝ }
     ensures law { λ r. ⌜ Told (now (text .entry)) r (now (tokens .exit)) ⌝ }
 {
     if text.len() > MOST_BYTES {
