@@ -1,7 +1,10 @@
+pub mod Depths
 pub mod Exact
+pub mod Finishing
 pub mod Good
 pub mod Numbering
 pub mod Pieces
+pub mod Places
 pub mod Running
 pub mod Signs
 mod Slicing

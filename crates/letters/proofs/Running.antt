@@ -57,8 +57,11 @@ own = numerals-by-value EachDigit tells-each
 pub digit-range : (ds : List ℕ) (i : ℕ) → i < length ds → EachDigit ds → In 48 57 (getD ds i 0)
 digit-range ds i h e = let d : isDigit (getD ds i 0) ≡ true = all-getD (λ b. isDigit b ≡ true) ds i 0 h e in let p = and-parts (leb 48 (getD ds i 0)) (leb (getD ds i 0) 57) d in (leb-true _ _ (p .0), leb-true _ _ (p .1))
 
+pub value-small : (ds : List ℕ) → length ds ≤ 6 → EachDigit ds → value 10 ds < 1000000
+value-small ds h e = value-short own ds 6 e h
+
 pub value-front : (ds : List ℕ) (i : ℕ) → i ≤ 6 → EachDigit ds → value 10 (take i ds) < 1000000
-value-front ds i h e = value-short own (take i ds) 6 (all-take (λ b. isDigit b ≡ true) i ds e) (simp length-take (omega arith))
+value-front ds i h e = value-small (take i ds) (simp length-take (omega arith)) (all-take (λ b. isDigit b ≡ true) i ds e)
 
 pub value-step : (ds : List ℕ) (i : ℕ) → i < length ds → EachDigit ds → value 10 (take (i + 1) ds) ≡ value 10 (take i ds) * 10 + (getD ds i 0 - 48)
 value-step ds i h e = let d = digitValue-digit (getD ds i 0) (digit-range ds i h e) in value-more 10 ds i h ∙ ap (λ n. value 10 (take i ds) * 10 + n) (omega arith)

@@ -20,12 +20,12 @@ use Rattle.letters.specs.declared.cutting.Piece.{Piece}
 use Rattle.letters.specs.declared.cutting.Piece.the-variants.{Blank, Part, Bad}
 use Rattle.letters.specs.declared.cutting.Lead.the-variants.{Gap, Word, Number, Sign}
 use Rattle.letters.specs.Bytes.{isBlank, isLetter, isDigit, isOpening, isClosing}
-use Rattle.letters.specs.Cuts.{signBy, pieceBy, pieceOf, openAfter, Cut, stop, put, cutFrom, cutOf, answerBy, answer, laid}
+use Rattle.letters.specs.Cuts.{signBy, pieceBy, pieceOf, openAfter, Cut, stop, put, cutFrom, answerBy}
 use Rattle.letters.specs.Spelling.{Reads, end, blank, token, Told}
 use Rattle.letters.proofs.Exact.{spelt-piece, blank-piece, stuck}
 use Rattle.letters.proofs.Good.{Good, part-good}
 use Rattle.letters.proofs.Pieces.{first-at}
-use Rattle.letters.proofs.Steps.{front-blank, front-bad, front-full, front-part, cut-none, before, before-stop, laid-is, cut-is, cut-long}
+use Rattle.letters.proofs.Steps.{front-blank, front-bad, front-full, front-part, cut-none}
 
 -- why the cut ends where it does
 abbrev pub Why : Misspelt → ℕ → List ℕ → Type 0
@@ -49,7 +49,7 @@ leaves-on (Some m) i n bs left h =
     let j = h .0 in let le : i + n ≤ h .0 = h .1 in
     (h .0, omega arith, h .2 ∙ drop-drop (h .0 - (i + n)) n bs ∙ ap (λ k. drop k bs) (omega arith), h .3, h .4)
 
-blank-first : (i : ℕ) (bs : List ℕ) → Blank ≡ pieceOf i bs → isBlank (getD bs 0 0) ≡ true
+pub blank-first : (i : ℕ) (bs : List ℕ) → Blank ≡ pieceOf i bs → isBlank (getD bs 0 0) ≡ true
 unfolding pieceOf
 blank-first i bs e = go (isBlank (getD bs 0 0)) (isLetter (getD bs 0 0)) (isDigit (getD bs 0 0)) e
   where
@@ -67,7 +67,7 @@ blank-first i bs e = go (isBlank (getD bs 0 0)) (isLetter (getD bs 0 0)) (isDigi
     go false false true h = absurd (no-word _ _ h)
     go false false false h = absurd (no-sign _ h)
 
-open-err : (b d i : ℕ) (m : Misspelt) → Err m ≡ openAfter b d i → (m ≡ Brackets i) × (isOpening b ≡ true)
+pub open-err : (b d i : ℕ) (m : Misspelt) → Err m ≡ openAfter b d i → (m ≡ Brackets i) × (isOpening b ≡ true)
 open-err b d i m e = go (isOpening b) (ltb d 64) e
   where
     go : (p q : Bool) → Err m ≡ cond p (cond q (Ok (d + 1)) (Err (Brackets i))) (Ok (cond (isClosing b) (d - 1) d)) → (m ≡ Brackets i) × (p ≡ true)
@@ -106,13 +106,13 @@ module _ (n d i b : ℕ) (bs : List ℕ) (short : length bs ≤ n) (rest : (d i 
   step (Part t) e = token-step t (openAfter b d i) e (part-good i (b ∷ bs) (omega arith) t (sym e)) refl
   step Bad e = subst (Outcome i (b ∷ bs)) (sym (front-bad i d (b ∷ bs) (omega arith) e)) (stopped i (b ∷ bs) (omega arith) (Letter i) (refl, e))
 
-outcome : (n d i : ℕ) (bs : List ℕ) → length bs ≤ n → Outcome i bs (cutFrom 0 d i bs)
+pub outcome : (n d i : ℕ) (bs : List ℕ) → length bs ≤ n → Outcome i bs (cutFrom 0 d i bs)
 outcome n d i [] h = subst (Outcome i []) (sym (cut-none i d)) (record { left = []; reads = end; leaves = refl })
 outcome zero d i (b ∷ bs) h = let bad : ⊥ = omega arith in absurd bad
 outcome (suc n) d i (b ∷ bs) h = step n d i b bs (omega arith) (λ d j l q. outcome n d j l q) (pieceOf i (b ∷ bs)) refl
 
 -- a text that is cut to its end is read in this way only
-only : {i : ℕ} {bs left : List ℕ} {ts : List Token} → Reads i bs ts left → (d : ℕ) → left ≡ [] → cutFrom 0 d i bs .fault ≡ None → ts ≡ cutFrom 0 d i bs .tokens
+pub only : {i : ℕ} {bs left : List ℕ} {ts : List Token} → Reads i bs ts left → (d : ℕ) → left ≡ [] → cutFrom 0 d i bs .fault ≡ None → ts ≡ cutFrom 0 d i bs .tokens
 only (end {i} {left}) d e f = sym (ap (λ (l : List ℕ). cutFrom 0 d i l .tokens) e ∙ ap (λ (c : Cut). c .tokens) (cut-none i d))
 only (blank {i} {b} {bs} q r) d e f =
     let s = front-blank i d (b ∷ bs) (omega arith) (blank-piece i (b ∷ bs) q) in
@@ -130,7 +130,7 @@ only (token {i} {w} {bs} {left} {t} {ts} place size some spelt far r) d e f = go
         let stops : _≡_ {A = Option Misspelt} (Some m) None = ap (λ (c : Cut). c .fault) (sym s) ∙ f in
         let no : _≡_ {A = ℕ} 0 1 = cc in let bad : ⊥ = omega arith in absurd bad
 
-told-by : (text : List ℕ) (ts new : List Token) (f : Option Misspelt) (left : List ℕ) → take (length ts) new ≡ ts → (f ≡ None → (us : List Token) → Reads 0 text us [] → us ≡ ts) → Reads 0 text ts left → Leaves f 0 text left → Told text (answerBy f (length ts)) new
+pub told-by : (text : List ℕ) (ts new : List Token) (f : Option Misspelt) (left : List ℕ) → take (length ts) new ≡ ts → (f ≡ None → (us : List Token) → Reads 0 text us [] → us ≡ ts) → Reads 0 text ts left → Leaves f 0 text left → Told text (answerBy f (length ts)) new
 told-by text ts new None left e sole r l = (subst (λ (us : List Token). Reads 0 text us []) (sym e) (subst (Reads 0 text ts) l r), λ us h. sole refl us h ∙ sym e)
 told-by text ts new (Some Length) left e sole r l = absurd (l .4)
 told-by text ts new (Some (Letter i)) left e sole r l =
@@ -144,25 +144,3 @@ told-by text ts new (Some (Brackets i)) left e sole r l =
       (length ts, subst (λ (us : List Token). Reads 0 text us (drop i text)) (sym e) (subst (Reads 0 text ts) p r)),
       ap isOpening (sym (first-at text i) ∙ ap (λ (l : List ℕ). getD l 0 0) (sym p)) ∙ l .4 .1,
     )
-
--- what is owed at a return
-pub record Finished (text : List ℕ) (r : Result ℕ Misspelt) (new old : List Token) : Type 0 where
-  pub value : r ≡ answer (cutOf text)
-  pub written : new ≡ laid (cutOf text .tokens) old
-  pub law : Told text r new
-
--- n tokens are written, and what is left of the text gives no more
-pub finish : (text : List ℕ) (n : ℕ) (new old : List Token) (f : Option Misspelt) (c : Cut) → length text ≤ 16384 → n ≤ length new → drop n new ≡ drop n old → cutFrom 0 0 0 text ≡ before (take n new) c → c ≡ record { tokens = []; fault = f } → Finished text (answerBy f n) new old
-finish text n new old f c short fits same e last =
-    let q : cutOf text ≡ record { tokens = take n new; fault = f } = cut-is text short ∙ e ∙ ap (before (take n new)) last ∙ before-stop (take n new) f in
-    let l = length-take-le n new fits in
-    let sole : f ≡ None → (us : List Token) → Reads 0 text us [] → us ≡ take n new = λ h us r. only r 0 refl (ap (λ (d : Cut). d .fault) (sym (cut-is text short) ∙ q) ∙ h) ∙ ap (λ (d : Cut). d .tokens) (sym (cut-is text short) ∙ q) in
-    let o = subst (Outcome 0 text) (sym (cut-is text short) ∙ q) (outcome (length text) 0 0 text (omega arith)) in
-    record {
-      value = ap (answerBy f) (sym l) ∙ sym (ap answer q);
-      written = laid-is n new old fits same ∙ ap (λ (d : Cut). laid (d .tokens) old) (sym q);
-      law = subst (λ m. Told text (answerBy f m) new) l (told-by text (take n new) new f (o .left) (ap (λ m. take m new) l) sole (o .reads) (o .leaves));
-    }
-
-pub finish-long : (text : List ℕ) (old : List Token) → 16384 < length text → Finished text (Err Length) old old
-finish-long text old h = let q = cut-long text h in record { value = sym (ap answer q); written = ap (λ (d : Cut). laid (d .tokens) old) (sym q); law = h }

@@ -1,8 +1,8 @@
--- The bytes of a text: blanks, letters, digits.
+-- The bytes of a text: blanks, letters, digits, brackets.
 use mathlib.Core.Bool.{Bool, true, cond, _&&_, _||_}
-use mathlib.Core.List.{List}
+use mathlib.Core.List.{List, [], _∷_}
 use mathlib.Core.Path.{_≡_}
-use Prim.Native.Nat.{ℕ}
+use Prim.Native.Nat.{ℕ, _+_, _-_}
 use lib.Dec.{eqb, leb}
 use Rattle.std.specs.shelf.Lists.{All}
 use Rattle.letters.specs.declared.cutting.Lead.{Lead}
@@ -26,6 +26,15 @@ isOpening b = eqb b 40 || eqb b 91
 
 abbrev pub isClosing : ℕ → Bool
 isClosing b = eqb b 41 || eqb b 93
+
+-- how many brackets are open after a byte, where `depth` are open before; the count does not fall below 0
+abbrev pub opened : ℕ → ℕ → ℕ
+opened b depth = cond (isOpening b) (depth + 1) (cond (isClosing b) (depth - 1) depth)
+
+-- the same after several bytes
+unfoldable pub openIn : ℕ → List ℕ → ℕ
+openIn depth [] = depth
+openIn depth (b ∷ bs) = openIn (opened b depth) bs
 
 -- what a byte begins
 abbrev pub leadOf : ℕ → Lead

@@ -4,3 +4,4 @@ pub mod Tokens
 pub mod Bytes
 pub mod Cuts
 pub mod Spelling
+pub mod Standing

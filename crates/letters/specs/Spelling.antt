@@ -12,7 +12,7 @@ use Rattle.letters.specs.declared.kind.Kind.the-variants.{Name, Numeral}
 use Rattle.letters.specs.declared.token.Token.{Token}
 use Rattle.letters.specs.declared.misspelt.Misspelt.{Misspelt}
 use Rattle.letters.specs.declared.misspelt.Misspelt.the-variants.{Length, Letter, Brackets}
-use Rattle.letters.specs.Bytes.{isBlank, isLetter, isDigit, isOpening, EachLetter, EachDigit}
+use Rattle.letters.specs.Bytes.{isBlank, isLetter, isDigit, isOpening, openIn, EachLetter, EachDigit}
 use Rattle.letters.specs.Kinds.{word, keywordOf}
 
 -- these bytes write the token: a name, a numeral, or a keyword or sign as it is written
@@ -47,3 +47,14 @@ Told text (Ok n) ts = Reads 0 text (take n ts) [] × ((us : List Token) → Read
 Told text (Err Length) ts = 16384 < length text
 Told text (Err (Letter i)) ts = (i < length text) × ((n : ℕ) × Reads 0 text (take n ts) (drop i text)) × Stuck (drop i text)
 Told text (Err (Brackets i)) ts = (i < length text) × ((n : ℕ) × Reads 0 text (take n ts) (drop i text)) × (isOpening (getD text i 0) ≡ true)
+
+-- no more than 64 brackets are open at any byte up to place i
+abbrev pub Shallow : List ℕ → ℕ → Type 0
+Shallow text i = (k : ℕ) → k ≤ i → openIn 0 (take k text) ≤ 64
+
+-- what an answer tells of the brackets: 64 are enough, or at the fault 64 are open
+abbrev pub Bracketed : List ℕ → Result ℕ Misspelt → Type 0
+Bracketed text (Ok n) = Shallow text (length text)
+Bracketed text (Err Length) = Unit {0}
+Bracketed text (Err (Letter i)) = Shallow text i
+Bracketed text (Err (Brackets i)) = Shallow text i × (openIn 0 (take i text) ≡ 64)

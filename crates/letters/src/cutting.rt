@@ -3,10 +3,11 @@ ghost use Prim.Native.Nat.{_+_, _<_, _≤_};
 ghost use lib.Dec.{eqb};
 ghost use lib.ListN.{length, getD, drop};
 ghost use Rattle.std.specs.Reads.{value};
+ghost use Rattle.std.specs.Vec.{made};
 ghost use Rattle.std.specs.shelf.Lists.{leading};
 ghost use Rattle.letters.specs.Bytes.{EachDigit, leadOf, ofRun};
 ghost use Rattle.letters.specs.Cuts.{signOf, openAfter, wordAt, numeralAt, signAt, pieceOf, cutOf, answer, laid};
-ghost use Rattle.letters.specs.Spelling.{Told};
+ghost use Rattle.letters.specs.Spelling.{Told, Bracketed};
 use crate::kind::Kind;
 use crate::misspelt::Misspelt;
 use crate::token::Token;
@@ -25,7 +26,7 @@ pub const MOST_OPEN: usize = 64;
 
 // What a byte begins.
 #[derive(Clone, Copy)]
-pub enum Lead {
+enum Lead {
     Gap,
     Word,
     Number,
@@ -34,14 +35,14 @@ pub enum Lead {
 
 // Bytes that go together as one token, however many there are.
 #[derive(Clone, Copy)]
-pub enum Run {
+enum Run {
     Letters,
     Digits,
 }
 
 // What stands at a place of a text.
 #[derive(Clone, Copy)]
-pub enum Piece {
+enum Piece {
     Blank,
     Part(Token),
     Bad,
@@ -204,6 +205,8 @@ fn open_after(byte: u8, depth: usize, place: usize) -> Result<usize, Misspelt>
 pub fn cut(text: &[u8], tokens: &mut [Token; 16384]) -> Result<usize, Misspelt>
     ensures value { λ r. ⌜ r ≡ answer (cutOf (now (text .entry))) ⌝ }
     ensures written { λ r. ⌜ now (tokens .exit) ≡ laid (cutOf (now (text .entry)) .tokens) (now (tokens .entry)) ⌝ }
+    ensures few { λ r. ⌜ made r (λ n. n ≤ 16384) ⌝ }
+    ensures brackets { λ r. ⌜ Bracketed (now (text .entry)) r ⌝ }
     ensures law { λ r. ⌜ Told (now (text .entry)) r (now (tokens .exit)) ⌝ }
 {
     if text.len() > MOST_BYTES {

@@ -1,10 +1,10 @@
 use mathlib.Core.List.{List}
 use mathlib.Core.Path.{sym, ap, subst, _∙_}
-use Prim.Native.Nat.{_+_, _<_}
+use Prim.Native.Nat.{_+_, _<_, _≤_}
 use native.Mathlib.Omega.{arith}
 use lib.ListN.{length, take, drop, length-set}
 use Rattle.std.proofs.shelf.Lists.{take-more-set, drop-set-lt, drop-drop}
-use Rattle.std.proofs.shelf.Results.{err-from-errBy}
+use Rattle.std.proofs.shelf.Results.{err-from-errBy, made-from-err}
 use Rattle.std.specs.declared.option.Option.the-variants.{Some, None}
 use Rattle.std.specs.declared.result.Result.{Result}
 use Rattle.std.specs.declared.result.Result.the-variants.{Err}
@@ -14,11 +14,11 @@ use Rattle.letters.specs.declared.token.Token.{Token}
 use Rattle.letters.specs.Cuts.{cutFrom}
 use Rattle.letters.proofs.Good.{part-fits}
 use Rattle.letters.proofs.Steps.{before, before-push, cut-blank, cut-bad, cut-full, cut-part, cut-end}
-use Rattle.letters.proofs.Telling.{finish, finish-long, Finished}
+use Rattle.letters.proofs.Finishing.{finish, finish-long, Finished}
 use Rattle.letters.proofs.cutting.cut.Needs as need
 
 pub returns-then-text-gt-MOST-BYTES : need.returns-then-text-gt-MOST-BYTES
-returns-then-text-gt-MOST-BYTES c = let f = finish-long (c .args .text .now) (c .args .tokens .now) (c .if-text-gt-MOST-BYTES .taken) in record { value = f .value; written = f .written; law = f .law }
+returns-then-text-gt-MOST-BYTES c = let f = finish-long (c .args .text .now) (c .args .tokens .now) (c .if-text-gt-MOST-BYTES .taken) in record { value = f .value; written = f .written; few = tt; brackets = f .brackets; law = f .law }
 
 pub loop-at-again-in-Blank : need.loop-at-again-in-Blank
 loop-at-again-in-Blank c = (omega arith, omega arith, c .loop-at .inv .2, c .loop-at .inv .3, c .loop-at .inv .4 ∙ ap (before (take (c .loop-at .count) (c .loop-at .tokens))) (cut-blank (c .args .text .now) (c .loop-at .at) (c .loop-at .depth) (c .loop-at-test .taken) (c .in-Blank .ensures tt)))
@@ -30,7 +30,7 @@ returns-in-Break-depth c =
     let f = finish (c .args .text .now) (c .loop-at .count) (c .loop-at .tokens) (c .args .tokens .now) (Some m) _ (omega arith) (omega arith) (c .loop-at .inv .3) (c .loop-at .inv .4)
     (cut-full (c .args .text .now) (c .loop-at .at) (c .loop-at .depth) (c .loop-at-test .taken) (c .in-Part .token) m (c .in-Part .ensures tt) (c .in-Break-depth .ensures tt)) in
     let g = subst (λ (r : Result _ Misspelt). Finished (c .args .text .now) r (c .loop-at .tokens) (c .args .tokens .now)) (sym (p .1 ∙ ap Err (p .2))) f in
-    record { value = g .value; written = g .written; law = g .law }
+    record { value = g .value; written = g .written; few = made-from-err (c .from-residual .result) (λ n. n ≤ 16384) (c .from-residual .ensures .0); brackets = g .brackets; law = g .law }
 
 pub add-at-in-Part : need.add-at-in-Part
 add-at-in-Part c = let f = part-fits (c .args .text .now) (c .loop-at .at) (c .in-Part .token) (c .loop-at-test .taken) (c .in-Part .ensures tt) in omega arith
@@ -56,10 +56,10 @@ pub returns-in-Bad : need.returns-in-Bad
 returns-in-Bad c =
     let f = finish (c .args .text .now) (c .loop-at .count) (c .loop-at .tokens) (c .args .tokens .now) (Some (Letter (c .loop-at .at))) _ (omega arith) (omega arith) (c .loop-at .inv .3) (c .loop-at .inv .4)
     (cut-bad (c .args .text .now) (c .loop-at .at) (c .loop-at .depth) (c .loop-at-test .taken) (c .in-Bad .ensures tt)) in
-    record { value = f .value; written = f .written; law = f .law }
+    record { value = f .value; written = f .written; few = tt; brackets = f .brackets; law = f .law }
 
 pub returns : need.returns
 returns c =
     let f = finish (c .args .text .now) (c .loop-at .count) (c .loop-at .tokens) (c .args .tokens .now) None _ (omega arith) (omega arith) (c .loop-at .inv .3) (c .loop-at .inv .4)
     (cut-end (c .args .text .now) (c .loop-at .at) (c .loop-at .depth) (c .loop-at-test .left)) in
-    record { value = f .value; written = f .written; law = f .law }
+    record { value = f .value; written = f .written; few = omega arith; brackets = f .brackets; law = f .law }
