@@ -1,3 +1,5 @@
+ghost use mathlib.Core.Path.{_≡_};
+ghost use Rattle.notation.specs.declared.misread.Misread.the-variants.{Memory};
 use std::alloc::AllocError;
 use std::fmt;
 
@@ -38,6 +40,8 @@ pub impl fmt::Display for Misread as MisreadDisplay {
 }
 
 pub impl From<AllocError> for Misread as MisreadFromAllocError {
+    ghost converts = { λ _ m. m ≡ Memory };
+
     fn from(_value: AllocError) -> Misread {
         Misread::Memory
     }
