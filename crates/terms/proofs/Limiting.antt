@@ -1,14 +1,14 @@
 -- Which terms are kept, and which a product gives.
-use mathlib.Core.Bool.{Bool, true, false, cond, _&&_}
+use mathlib.Core.Bool.{Bool, true, false, cond}
 use mathlib.Core.List.{List}
-use mathlib.Core.Path.{_≡_, refl, sym, ap, _∙_}
+use mathlib.Core.Path.{_≡_, sym, ap, _∙_}
 use lib.IntN.{ℤ, pos}
 use Rattle.std.specs.declared.option.Option.{Option}
 use Rattle.std.specs.declared.option.Option.the-variants.{Some, None}
-use Rattle.std.proofs.shelf.Tests.{and-from, and-left, and-right}
+use Rattle.std.proofs.shelf.Tests.{and-from, and-right}
 use Rattle.language.specs.declared.term.Term.{Term}
 use Rattle.language.specs.declared.sign.Operator.the-variants.{Product}
-use Rattle.language.specs.Terms.{near, allNear, fitsTerm, scaled, isConstant, limited, worked}
+use Rattle.language.specs.Terms.{near, allNear, scaled, isConstant, limited, worked}
 use Rattle.terms.specs.Narrow.{within, allWithin, termOf}
 use Rattle.terms.proofs.Holding.{within-near}
 

@@ -1,11 +1,12 @@
-ghost use mathlib.Core.Bool.{cond};
+ghost use mathlib.Core.Bool.{true, cond};
 ghost use mathlib.Core.Path.{_≡_};
 ghost use lib.IntN.{pos, _+ℤ_, _-ℤ_, _*ℤ_};
 ghost use lib.ListN.{getD};
 ghost use Rattle.std.specs.declared.option.Option.the-variants.{Some, None};
 ghost use Rattle.ints.specs.Tests.{isZero, allBelow};
 ghost use Rattle.language.specs.Terms.{each, allNear};
-ghost use Rattle.terms.specs.Narrow.{allWithin};
+ghost use Rattle.terms.specs.Narrow.{allWithin, room};
+use crate::numbers::add_product;
 use crate::numbers::difference;
 use crate::numbers::is_near;
 use crate::numbers::is_zero;
@@ -40,6 +41,17 @@ pub(crate) fn products(k: i32, xs: &[i32; 16]) -> [i64; 16]
     let mut out = [0i64; 16];
     for j in 0..QUANTITIES {
         out[j] = product(k, xs[j]);
+    }
+    out
+}
+
+pub(crate) fn add_products(zs: &[i64; 16], k: i32, xs: &[i32; 16]) -> [i64; 16]
+    requires { ⌜ allWithin (pos room) (now zs) ≡ true ⌝ }
+    ensures { λ r. ⌜ r ≡ each (λ j. k *ℤ getD (now (xs .entry)) j (pos 0) +ℤ getD (now (zs .entry)) j (pos 0)) ⌝ }
+{
+    let mut out = [0i64; 16];
+    for j in 0..QUANTITIES {
+        out[j] = add_product(zs[j], k, xs[j]);
     }
     out
 }

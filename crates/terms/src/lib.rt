@@ -3,6 +3,7 @@ mod arrays;
 pub mod comparing;
 mod numbers;
 pub mod rowlist;
+pub mod total;
 pub mod working;
 
 pub use comparing::at_most;
@@ -11,6 +12,8 @@ pub use comparing::otherwise;
 pub use comparing::rows;
 pub use comparing::unequal;
 pub use rowlist::Rows;
+pub use total::MOST_ITEMS;
+pub use total::Total;
 pub use working::constant;
 pub use working::fits;
 pub use working::is_constant;

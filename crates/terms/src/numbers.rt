@@ -1,10 +1,10 @@
-ghost use mathlib.Core.Bool.{cond};
+ghost use mathlib.Core.Bool.{true, cond};
 ghost use mathlib.Core.Path.{_≡_};
-ghost use lib.IntN.{_+ℤ_, _-ℤ_, _*ℤ_};
+ghost use lib.IntN.{pos, _+ℤ_, _-ℤ_, _*ℤ_};
 ghost use Rattle.std.specs.declared.option.Option.the-variants.{Some, None};
 ghost use Rattle.ints.specs.Tests.{isZero};
 ghost use Rattle.language.specs.Terms.{near};
-ghost use Rattle.terms.specs.Narrow.{within};
+ghost use Rattle.terms.specs.Narrow.{within, room};
 use language::TERM_LIMIT;
 
 pub(crate) fn sum(x: i32, y: i32) -> i64
@@ -23,6 +23,14 @@ pub(crate) fn product(x: i32, y: i32) -> i64
     ensures { λ r. ⌜ r ≡ x *ℤ y ⌝ }
 {
     i64::from(x) * i64::from(y)
+}
+
+// x times y, and z: the sum fits where z leaves room for the product.
+pub(crate) fn add_product(z: i64, x: i32, y: i32) -> i64
+    requires { ⌜ within (pos room) z ≡ true ⌝ }
+    ensures { λ r. ⌜ r ≡ x *ℤ y +ℤ z ⌝ }
+{
+    product(x, y) + z
 }
 
 pub(crate) fn is_near(z: i32) -> bool

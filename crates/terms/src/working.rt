@@ -1,6 +1,6 @@
 ghost use mathlib.Core.Path.{_≡_};
 ghost use Rattle.language.specs.declared.sign.Operator.the-variants.{Product};
-ghost use Rattle.language.specs.Terms.{constant, quantity, plus, minus, scaled, fitsTerm, isConstant, limited, worked};
+ghost use Rattle.language.specs.Terms.{constant, quantity, scaled, fitsTerm, isConstant, limited, worked};
 ghost use Rattle.terms.specs.Narrow.{termOf};
 use crate::arrays::all_near;
 use crate::arrays::all_zero;
@@ -53,7 +53,7 @@ pub fn is_constant(t: &Term) -> bool
 }
 
 // The term of these numbers, where they keep the limit.
-fn limited(constant: i64, coefs: &[i64; 16]) -> Option<Term>
+pub(crate) fn limited(constant: i64, coefs: &[i64; 16]) -> Option<Term>
     ensures { λ r. ⌜ r ≡ limited (termOf constant (now (coefs .entry))) ⌝ }
 {
     let constant = narrow(TERM_LIMIT, constant)?;

@@ -1,6 +1,5 @@
-use mathlib.Core.List.{List}
-use mathlib.Core.Path.{_≡_, ap}
-use lib.IntN.{ℤ, pos}
+use mathlib.Core.Path.{ap}
+use lib.IntN.{pos}
 use Rattle.language.specs.Terms.{quantity}
 use Rattle.terms.specs.Narrow.{termOf}
 use Rattle.terms.proofs.Units.{unit-below, unit-past}

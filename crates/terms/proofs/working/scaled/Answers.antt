@@ -1,7 +1,7 @@
 use mathlib.Core.List.{List}
-use mathlib.Core.Path.{_≡_, ap, ap₂, _∙_}
+use mathlib.Core.Path.{ap, ap₂, _∙_}
 use borrow.Author.Needs.{needs}
-use lib.IntN.{ℤ, pos, _*ℤ_}
+use lib.IntN.{ℤ, _*ℤ_}
 use mir.Syntax.{w32, w64}
 use Rattle.std.proofs.shelf.Signed.{toZ-ofZ}
 use Rattle.language.specs.Terms.{each, coefOf, limited, scaled}
