@@ -8,7 +8,7 @@ use Rattle.std.proofs.shelf.Signed.{ints}
 use Rattle.language.specs.declared.term.Term.{Term}
 use Rattle.language.specs.Tree.{Side}
 use Rattle.language.specs.Terms.{each, coefOf, constant, zeroTerm, plus, scaled}
-use Rattle.language.specs.Comparing.{atomTerm, sideTerm}
+use Rattle.language.specs.Comparing.{atomTerm, sideTerm, conditionRows}
 use Rattle.language.proofs.Worths.{each-at}
 use Rattle.terms.specs.Narrow.{termOf}
 use Rattle.terms.specs.Totals.{sideFrom, InTurn}
@@ -69,4 +69,5 @@ module _ (ts : List Term) (r : Term) where
       ∙ zero-side is
 
 pub in-turn : InTurn
-in-turn = record { whole = side-in-turn }
+unfolding conditionRows
+in-turn = record { side = side-in-turn; condition = λ ts r c. refl }

@@ -7,10 +7,12 @@ use lib.Dec.{ltb}
 use lib.IntN.{ℤ}
 use Rattle.std.specs.declared.option.Option.{Option}
 use Rattle.std.specs.declared.option.Option.the-variants.{Some, None}
+use Rattle.rows.specs.declared.row.Row.{Row}
 use Rattle.language.specs.declared.term.Term.{Term}
-use Rattle.language.specs.Tree.{Side}
+use Rattle.language.specs.declared.sign.Comparison.{Comparison}
+use Rattle.language.specs.Tree.{Side, Condition}
 use Rattle.language.specs.Terms.{zeroTerm, near, fitsTerm, plus, scaled}
-use Rattle.language.specs.Comparing.{atomTerm, sideTerm}
+use Rattle.language.specs.Comparing.{rows, atomTerm, sideTerm, conditionRows}
 use Rattle.terms.specs.declared.total.Total.{Total}
 use Rattle.terms.specs.Narrow.{termOf}
 
@@ -34,6 +36,11 @@ unfoldable pub sideFrom : List Term → Term → Term → Side → Term
 sideFrom ts r t [] = t
 sideFrom ts r t (i ∷ is) = sideFrom ts r (plus (scaled (i .factor) (atomTerm ts r (i .atom))) t) is
 
--- taken in turn, the items of a side come to the side
+-- the rows of a comparison of two sides; none in their place where a side is large
+abbrev pub sideRows : Comparison → Term → Term → List (Option Row)
+sideRows c t u = cond (fitsTerm t && fitsTerm u) (rows c t u) (None ∷ [])
+
+-- taken in turn, the items of a side come to the side, and so two totals to the rows of a condition
 pub record InTurn : Type 0 where
-  pub whole : (ts : List Term) (r : Term) (is : Side) → sideFrom ts r zeroTerm is ≡ sideTerm ts r is
+  pub side : (ts : List Term) (r : Term) (is : Side) → sideFrom ts r zeroTerm is ≡ sideTerm ts r is
+  pub condition : (ts : List Term) (r : Term) (c : Condition) → sideRows (c .comparison) (sideTerm ts r (c .left)) (sideTerm ts r (c .right)) ≡ conditionRows ts r c

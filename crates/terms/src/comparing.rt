@@ -3,11 +3,13 @@ ghost use lib.IntN.{pos};
 ghost use Rattle.rows.specs.Rows.{rowOf};
 ghost use Rattle.language.specs.Comparing.{atMost, unequal, rows, otherwise};
 ghost use Rattle.terms.specs.Listed.{listOf};
+ghost use Rattle.terms.specs.Totals.{sumOf, sideRows};
 use crate::arrays::differences;
 use crate::arrays::narrow_all;
 use crate::numbers::difference;
 use crate::numbers::narrow;
 use crate::rowlist::Rows;
+use crate::total::Total;
 use language::Comparison;
 use language::Term;
 use rows::Kind;
@@ -69,4 +71,17 @@ pub fn otherwise(comparison: Comparison, t: &Term, u: &Term) -> Rows
         Comparison::Equal => rows(Comparison::NotEqual, t, u),
         Comparison::NotEqual => rows(Comparison::Equal, t, u),
     }
+}
+
+// The rows of a condition whose sides come to these totals: none in their place where a side is past the limit of terms.
+pub fn condition_rows(comparison: Comparison, left: Total, right: Total) -> Rows
+    ensures { λ r. ⌜ listOf r ≡ sideRows comparison (sumOf left) (sumOf right) ⌝ }
+{
+    let Some(t) = left.finish() else {
+        return Rows::One(None);
+    };
+    let Some(u) = right.finish() else {
+        return Rows::One(None);
+    };
+    rows(comparison, &t, &u)
 }

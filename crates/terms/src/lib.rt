@@ -8,6 +8,7 @@ pub mod working;
 
 pub use comparing::at_most;
 pub use comparing::below;
+pub use comparing::condition_rows;
 pub use comparing::otherwise;
 pub use comparing::rows;
 pub use comparing::unequal;
