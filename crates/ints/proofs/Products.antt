@@ -1,10 +1,10 @@
 -- Laws of products of integers.
 use mathlib.Core.Path.{_≡_, sym, ap, ap₂, _∙_}
-use Prim.Native.Nat.{ℕ, _+_, _*_, _≤_}
-use native.Mathlib.Nat.{mul-add, add-mul, mul-assoc, mul-le-mul-left}
+use Prim.Native.Nat.{ℕ, suc, _+_, _*_, _≤_}
+use native.Mathlib.Nat.{mul-add, add-mul, mul-assoc, mul-le-mul-left, mul-le-mul, le-refl}
 use native.Mathlib.Omega.{arith}
 use borrow.Author.Differences.{up, down, neg-is, sum-is, product-is, le-out}
-use lib.IntN.{ℤ, pos, _+ℤ_, _*ℤ_, negℤ, *ℤ-comm}
+use lib.IntN.{ℤ, pos, negsuc, _+ℤ_, _*ℤ_, negℤ, *ℤ-comm}
 use lib.Signed.{_≤ℤ_}
 use Rattle.std.proofs.shelf.Signed.{ints}
 use Rattle.ints.specs.Sums.{Near}
@@ -55,3 +55,16 @@ times-near m z k h =
     let b = mul-mono m _ _ (h .1) in
     let e = times-neg m k in
     (omega (arith, ints), b)
+
+pub product-near : (x y : ℤ) (a b : ℕ) → Near a x → Near b y → Near (a * b) (x *ℤ y)
+product-near (pos m) y a b h k =
+    let l : m ≤ a = omega (arith, ints) in
+    let n = mul-le-mul l (le-refl b) in
+    let z = times-near m y b k in
+    (omega (arith, ints), omega (arith, ints))
+product-near (negsuc m) y a b h k =
+    let l : suc m ≤ a = omega (arith, ints) in
+    let n = mul-le-mul l (le-refl b) in
+    let z = times-near (suc m) y b k in
+    let e = neg-mul (pos (suc m)) y in
+    (omega (arith, ints), omega (arith, ints))

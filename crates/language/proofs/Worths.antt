@@ -23,7 +23,7 @@ use Rattle.language.specs.declared.sign.Operator.the-variants.{Sum, Difference
 use Rattle.language.specs.Vocabulary.{reckoned}
 use Rattle.language.specs.Terms.{coefOf, each, constant, quantity, plus, minus, scaled, worth, termAt, fitsTerm, isConstant, limited, worked}
 
-each-at : (f : ℕ → ℤ) (j : ℕ) → j < 16 → getD (each f) j (pos 0) ≡ f j
+pub each-at : (f : ℕ → ℤ) (j : ℕ) → j < 16 → getD (each f) j (pos 0) ≡ f j
 unfolding each
 each-at f j h = getD-map-counting f 0 16 j j (pos 0) h (zero-add j)
 

@@ -1,0 +1,21 @@
+use mathlib.Core.Path.{refl, ap₂, _∙_}
+use native.Mathlib.Omega.{arith}
+use borrow.Author.Needs.{needs}
+use lib.IntN.{pos, _-ℤ_}
+use lib.ListN.{getD}
+use mir.Syntax.{w32, w64}
+use Rattle.std.proofs.shelf.Signed.{toZ-ofZ}
+use Rattle.terms.proofs.Filling.{filled-none, filled-more, filled-all}
+use Rattle.terms.proofs.arrays.differences.Needs as need
+
+pub loop-j-holds : need.loop-j-holds
+loop-j-holds c = filled-none _ _ refl
+
+pub loop-j-again : need.loop-j-again
+loop-j-again c =
+    let xs = c .args .xs .now in let ys = c .args .ys .now in let j = c .loop-j .j in
+    filled-more _ (c .loop-j .out) j (c .loop-j .inv) _ (omega arith)
+    (toZ-ofZ w64 (c .difference .result) (search needs) ∙ c .difference .ensures ∙ ap₂ _-ℤ_ (toZ-ofZ w32 (getD xs j (pos 0)) (search needs)) (toZ-ofZ w32 (getD ys j (pos 0)) (search needs)))
+
+pub returns : need.returns
+returns c = filled-all _ (c .loop-j .out) (c .loop-j .j) (c .loop-j .inv) (omega arith)
