@@ -1,0 +1,15 @@
+pub mod Laws
+pub mod Loops
+pub mod Parts
+pub mod Makes
+pub mod Inverts
+pub mod Rereads
+pub mod Levels
+pub mod Rooms
+pub mod Comings
+pub mod Ruling
+pub mod Wholes
+pub mod Sound
+pub mod Local
+pub mod Whole
+pub mod Lawfully
