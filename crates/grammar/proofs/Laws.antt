@@ -17,7 +17,7 @@ use Rattle.letters.specs.declared.kind.Kind.the-variants.{End}
 use Rattle.letters.specs.declared.token.Token.{Token}
 use Rattle.letters.specs.Kinds.{number, sameKind}
 use Rattle.grammar.specs.declared.node.Node.{Node}
-use Rattle.grammar.specs.Parsers.{Look, isA, Ans, done, fault, spent, P, then, give, stop, next, seq, when, turn, chain}
+use Rattle.grammar.specs.Parsers.{Look, lookIn, isA, Ans, done, fault, spent, P, then, give, stop, next, seq, when, turn, chain}
 use Rattle.grammar.specs.Trees.{lookOf}
 use Rattle.grammar.specs.Held.{OnOk, Held, look, tokenCount, sheet, Lasts, Taken, Any, Comes, Fine, Failed, Told, Went, Bumped}
 
@@ -98,13 +98,13 @@ unfolding seq
 then-ok {x} {q} w v = seq-ok {p = λ _. give x} (λ f _. q f) w v
 
 -- a kind but the end's stands inside the tokens
-pub inside : (s : Held) (i : ℕ) (k : Kind) → isA k (look s i) ≡ true → (number k ≡ number End → ⊥) → i < tokenCount s
+pub inside : (ts : List Token) (e i : ℕ) (k : Kind) → isA k (lookIn ts e i) ≡ true → (number k ≡ number End → ⊥) → i < length ts
 unfolding sameKind
-inside s i k e h = go (decLt i (tokenCount s))
+inside ts e i k q h = go (decLt i (length ts))
   where
-    go : Dec (i < tokenCount s) → i < tokenCount s
+    go : Dec (i < length ts) → i < length ts
     go (yes l) = l
-    go (no l) = absurd (h (sym (eqb→eq (number End) (number k) (subst T (sym (sym (ap (λ (t : Token). eqb (number (t .kind)) (number k)) (getD-past (s .source .tokens) i _ (omega arith))) ∙ e)) tt))))
+    go (no l) = absurd (h (sym (eqb→eq (number End) (number k) (subst T (sym (sym (ap (λ (t : Token). eqb (number (t .kind)) (number k)) (getD-past ts i _ (omega arith))) ∙ q)) tt))))
 
 pub bumped-lasts : {s s′ : Held} → Bumped s s′ → Lasts s s′
 bumped-lasts {s} {s′} b = record { same = b .same; added = ([], b .nodes ∙ sym (append-nil (s .nodes))); rules = ap₂ (λ c ns. sheet (record { source = c; at = 0; nodes = ns; lender = 0 })) (b .same) (b .nodes) }

@@ -13,3 +13,5 @@ pub mod Sound
 pub mod Local
 pub mod Whole
 pub mod Lawfully
+pub mod Readings
+pub mod Joins

@@ -54,7 +54,7 @@ chain-reads {A} l n b step after ends h (suc f) (suc m) a i a′ j k e = elim (w
 ]
 
 module _ (s : Source) where
-  ends-kind : (k : Kind) → eqb (number End) (number k) ≡ false → (i : ℕ) → length (s .tokens) ≤ i → isA k (lookOf s i) ≡ false
+  pub ends-kind : (k : Kind) → eqb (number End) (number k) ≡ false → (i : ℕ) → length (s .tokens) ≤ i → isA k (lookOf s i) ≡ false
   unfolding sameKind
   ends-kind k e i h = ap (λ (t : Token). isA k t) (getD-past (s .tokens) i _ h) ∙ e
 

@@ -140,9 +140,6 @@ module _ (l : Look) where
   ]
 
   -- arguments after their bracket, up to and with the closing one
-  abbrev Called : ℕ → Args → ℕ → Type 0
-  Called i xs j = (t : ℕ) → suc (suc t) ≡ i → Is Name (l t) → Is Open (l (suc t)) → Derives l atom t (raw.call (l t) xs) j
-
   args-body : (s : P Expr) (rest : Args → P Args) → Sound l (Derives l sum) s → SoundFrom l (DArgs l) rest → (t : ℕ) (xs : Args) (j : ℕ) → Is Name (l t) → Is Open (l (suc t)) → argsBy s rest l (suc (suc t)) ≡ done xs j → Derives l atom t (raw.call (l t) xs) j
   args-body s rest hs hr t xs j n o q = elim (when-inv (isA Close) _ _ l (suc (suc t)) _ q) [
     | inl y ↦ put′ (λ z k. Derives l atom t (raw.call (l t) z) k) (at-call-none n o (y .0)) (next-then _ l (suc (suc t)) _ (y .1))

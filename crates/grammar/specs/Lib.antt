@@ -7,3 +7,4 @@ pub mod Held
 pub mod Parsed
 pub mod Derives
 pub mod Lawful
+pub mod Pieces

@@ -9,6 +9,7 @@ ghost use Rattle.grammar.specs.Sheets.{sumSign, compares};
 ghost use Rattle.grammar.specs.Held.{held, look, tokenCount, Went, Taken, Bumped, Pushed, SameCount};
 use crate::node::Node;
 use crate::parser::Parser;
+use crate::stretch::token_at;
 use letters::Kind;
 use letters::Token;
 
@@ -17,11 +18,7 @@ impl Parser<'_, '_> {
     fn peek(&self) -> Token
         ensures { λ r. ⌜ r ≡ look (held (now (self .entry))) (held (now (self .entry)) .at) ⌝ }
     {
-        if self.at < self.tokens.len() {
-            self.tokens[self.at]
-        } else {
-            Token::end(self.end)
-        }
+        token_at(self.tokens, self.end, self.at)
     }
 
     // The token at hand is of this kind, which is not the end's.

@@ -1,0 +1,11 @@
+pub mod Smallest
+pub mod Joins
+pub mod Begins
+pub mod Nodes
+pub mod Slots
+pub mod Turns
+pub mod Grown
+pub mod Called
+pub mod Scoping
+pub mod Walking
+pub mod Ruling
