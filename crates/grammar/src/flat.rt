@@ -76,7 +76,7 @@ impl Parser<'_, '_> {
         self.side(res)
     }
 
-    pub fn conditions(&mut self, res: bool) -> Result<(), usize>
+    pub(crate) fn conditions(&mut self, res: bool) -> Result<(), usize>
         ensures went { λ r. ⌜ Went Any r (conditionsS res) (held (now (self .entry))) (held (now (self .exit))) ⌝ }
         ensures count { λ r. ⌜ SameCount (held (now (self .entry))) (held (now (self .exit))) ⌝ }
     {
@@ -89,7 +89,7 @@ impl Parser<'_, '_> {
     }
 
     // Conditions after a keyword, if that stands there.
-    pub fn optional(&mut self, kind: Kind, res: bool) -> Result<(), usize>
+    pub(crate) fn optional(&mut self, kind: Kind, res: bool) -> Result<(), usize>
         requires { ⌜ (number kind ≡ number Kind.End → ⊥) ⌝ }
         ensures went { λ r. ⌜ Went Any r (optionalS kind res) (held (now (self .entry))) (held (now (self .exit))) ⌝ }
         ensures count { λ r. ⌜ SameCount (held (now (self .entry))) (held (now (self .exit))) ⌝ }
@@ -118,7 +118,7 @@ impl Parser<'_, '_> {
     }
 
     // The params up to and with their closing bracket.
-    pub fn params(&mut self) -> Result<(), usize>
+    pub(crate) fn params(&mut self) -> Result<(), usize>
         ensures went { λ r. ⌜ Went Any r paramsS (held (now (self .entry))) (held (now (self .exit))) ⌝ }
         ensures count { λ r. ⌜ SameCount (held (now (self .entry))) (held (now (self .exit))) ⌝ }
     {

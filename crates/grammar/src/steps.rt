@@ -22,7 +22,7 @@ impl Parser<'_, '_> {
     }
 
     // The token at hand is of this kind, which is not the end's.
-    pub fn sees(&self, kind: Kind) -> bool
+    pub(crate) fn sees(&self, kind: Kind) -> bool
         requires { ⌜ (number kind ≡ number Kind.End → ⊥) ⌝ }
         ensures told { λ r. ⌜ r ≡ isA kind (look (held (now (self .entry))) (held (now (self .entry)) .at)) ⌝ }
         ensures inside { λ r. ⌜ (r ≡ true → held (now (self .entry)) .at < tokenCount (held (now (self .entry)))) ⌝ }
@@ -31,14 +31,14 @@ impl Parser<'_, '_> {
     }
 
     // There is no token left.
-    pub fn ended(&self) -> bool
+    pub(crate) fn ended(&self) -> bool
         ensures { λ r. ⌜ r ≡ isA Kind.End (look (held (now (self .entry))) (held (now (self .entry)) .at)) ⌝ }
     {
         self.peek().kind.is(Kind::End)
     }
 
     // The token at hand joins the parts of a sum.
-    pub fn sees_sum_sign(&self) -> bool
+    pub(crate) fn sees_sum_sign(&self) -> bool
         ensures told { λ r. ⌜ r ≡ sumSign (look (held (now (self .entry))) (held (now (self .entry)) .at)) ⌝ }
         ensures inside { λ r. ⌜ (r ≡ true → held (now (self .entry)) .at < tokenCount (held (now (self .entry)))) ⌝ }
     {
@@ -68,7 +68,7 @@ impl Parser<'_, '_> {
     }
 
     // Goes past the token at hand, which is not the end, and gives its number.
-    pub fn bump(&mut self) -> usize
+    pub(crate) fn bump(&mut self) -> usize
         requires { ⌜ held (now self) .at < tokenCount (held (now self)) ⌝ }
         ensures token { λ r. ⌜ r ≡ held (now (self .entry)) .at ⌝ }
         ensures bumped { λ r. ⌜ Bumped (held (now (self .entry))) (held (now (self .exit))) ⌝ }
@@ -79,14 +79,14 @@ impl Parser<'_, '_> {
     }
 
     // The place of the token at hand.
-    pub fn fault(&self) -> usize
+    pub(crate) fn fault(&self) -> usize
         ensures { λ r. ⌜ r ≡ look (held (now (self .entry))) (held (now (self .entry)) .at) .place ⌝ }
     {
         self.peek().place
     }
 
     // Takes a token that is to be of this kind.
-    pub fn take(&mut self, kind: Kind) -> Result<usize, usize>
+    pub(crate) fn take(&mut self, kind: Kind) -> Result<usize, usize>
         requires { ⌜ (number kind ≡ number Kind.End → ⊥) ⌝ }
         ensures went { λ r. ⌜ Went Taken r (λ _. want kind) (held (now (self .entry))) (held (now (self .exit))) ⌝ }
         ensures count { λ r. ⌜ SameCount (held (now (self .entry))) (held (now (self .exit))) ⌝ }
@@ -100,7 +100,7 @@ impl Parser<'_, '_> {
     }
 
     // Takes a comparison.
-    pub fn comparison(&mut self, tested: bool) -> Result<usize, usize>
+    pub(crate) fn comparison(&mut self, tested: bool) -> Result<usize, usize>
         ensures went { λ r. ⌜ Went Taken r (λ _. wanted (compares tested)) (held (now (self .entry))) (held (now (self .exit))) ⌝ }
         ensures count { λ r. ⌜ SameCount (held (now (self .entry))) (held (now (self .exit))) ⌝ }
         ensures past { λ r. ⌜ elim r [ Ok a ↦ held (now (self .exit)) .at ≡ suc (held (now (self .entry)) .at) | Err e ↦ Unit {0} ] ⌝ }
@@ -113,7 +113,7 @@ impl Parser<'_, '_> {
     }
 
     // Makes a node, for which a token was passed that no other node has, and gives its position.
-    pub fn push(&mut self, node: Node) -> usize
+    pub(crate) fn push(&mut self, node: Node) -> usize
         requires { ⌜ length (held (now self) .nodes) < held (now self) .at ⌝ }
         ensures { λ r. ⌜ Pushed r node (held (now (self .entry))) (held (now (self .exit))) ⌝ }
     {

@@ -90,7 +90,7 @@ impl Written<'_> {
     }
 
     // The first name in conditions that is no number's.
-    pub fn conditions_fault(self, names: &[usize], at: usize) -> Option<usize>
+    pub(crate) fn conditions_fault(self, names: &[usize], at: usize) -> Option<usize>
         ensures { λ r. ⌜ r ≡ least (conditionFaults (self .entry .text .now) (tokensOf (self .entry) (now (names .entry))) (conditionsAt (length (self .entry .tokens .now)) (lookOf (sourceOf (self .entry))) at .value)) ⌝ }
     {
         if at > self.tokens.len() {
@@ -110,7 +110,7 @@ impl Written<'_> {
     }
 
     // The same of the conditions after a keyword, if that stands there.
-    pub fn optional_fault(self, names: &[usize], keyword: Kind, at: usize) -> Option<usize>
+    pub(crate) fn optional_fault(self, names: &[usize], keyword: Kind, at: usize) -> Option<usize>
         requires { ⌜ sameKind Kind.End keyword ≡ false ⌝ }
         ensures { λ r. ⌜ r ≡ least (conditionFaults (self .entry .text .now) (tokensOf (self .entry) (now (names .entry))) (optionalAt (length (self .entry .tokens .now)) (lookOf (sourceOf (self .entry))) keyword at)) ⌝ }
     {

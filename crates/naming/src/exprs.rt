@@ -16,7 +16,7 @@ use pile::Pile;
 
 impl Written<'_> {
     // The first fault in the expression at a position below `top`. The names in force are the same again afterwards.
-    pub fn expr_fault(
+    pub(crate) fn expr_fault(
         self,
         lists: &[usize],
         names: &mut Pile<'_, usize>,
