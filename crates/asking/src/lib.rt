@@ -1,4 +1,6 @@
 // A question put to a prover, and the proposal judged by a domain.
+#![tactic(auto)]
+
 pub mod asking;
 pub mod certificate;
 pub mod unproved;

@@ -1,5 +1,7 @@
 // Asks Fourier-Motzkin some thousand questions, has the linear domain verify what it proposes, and prints what came of it.
 // How long that took goes to standard error, so that the output is always the same.
+#![tactic(auto)]
+
 mod sample;
 mod tally;
 

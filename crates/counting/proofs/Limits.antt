@@ -2,7 +2,7 @@
 use Rattle.std.proofs.Common.{◌≡◌, ℕ, zero, suc, ◌≤◌, true, false, List, [], ◌∷◌, ◌++◌, length, Some, None, Option, sym, refl, ◌∙◌, arith}
 use Rattle.std.proofs.lemmas.List.{length-map}
 use Rattle.std.proofs.lemmas.Option.{slice_get_past}
-use Rattle.std.specs.List.{AllByRecursion as All, slice_get}
+use Rattle.std.specs.List.{AllByRecursion, slice_get}
 use Rattle.grammar.specs.Raw as Raw
 use Rattle.naming.specs.Least.{merged, least}
 use Rattle.naming.proofs.Smallest.{least-append, least-both}
@@ -35,7 +35,7 @@ rules-kept : (rs : List Raw.Rule) → least (rulesOver rs) ≡ None → length r
 unfolding rulesOver
 rules-kept rs e = let k = length-map rs (λ (r : Raw.Rule). r.keyword.place) in omega (arith, nth-none (keywords rs) 32 (listed-none (slice_get (keywords rs) 32) e))
 
-heads-kept : (rs : List Raw.Rule) → least (headsOver rs) ≡ None → All (λ (r : Raw.Rule). length (places_of true r.params) ≤ 4) rs × All (λ (r : Raw.Rule). length (places_of false r.params) ≤ 8) rs
+heads-kept : (rs : List Raw.Rule) → least (headsOver rs) ≡ None → AllByRecursion (λ (r : Raw.Rule). length (places_of true r.params) ≤ 4) rs × AllByRecursion (λ (r : Raw.Rule). length (places_of false r.params) ≤ 8) rs
 unfolding headsOver
 heads-kept [] e = (tt, tt)
 heads-kept (r ∷ rs) e =
@@ -44,7 +44,7 @@ heads-kept (r ∷ rs) e =
     let k = heads-kept rs a.1 in
     ((nth-none (places_of true r.params) 4 (listed-none _ b.0), k.0), (nth-none (places_of false r.params) 8 (listed-none _ b.1), k.1))
 
-heads-none : (rs : List Raw.Rule) → All (λ (r : Raw.Rule). length (places_of true r.params) ≤ 4) rs → All (λ (r : Raw.Rule). length (places_of false r.params) ≤ 8) rs → least (headsOver rs) ≡ None
+heads-none : (rs : List Raw.Rule) → AllByRecursion (λ (r : Raw.Rule). length (places_of true r.params) ≤ 4) rs → AllByRecursion (λ (r : Raw.Rule). length (places_of false r.params) ≤ 8) rs → least (headsOver rs) ≡ None
 unfolding headsOver least
 heads-none [] a b = refl
 heads-none (r ∷ rs) a b =

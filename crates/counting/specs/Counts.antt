@@ -1,6 +1,6 @@
 -- What a sheet may have: 32 rules, 4 lists and 8 numbers a rule, 1,024 expressions, 128 conditions; and the first place past that.
 use Rattle.std.specs.Prelude.{ℕ, zero, suc, ◌+◌, ◌<◌, ◌≤◌, Bool, true, false, cond, not, List, [], ◌∷◌, ◌++◌, map, length, is_some, Some, None, sum_by, count_by, Option, nat_le, nat_lt}
-use Rattle.std.specs.List.{AllByRecursion as All, slice_get}
+use Rattle.std.specs.List.{AllByRecursion, slice_get}
 use Rattle.grammar.specs.Raw as Raw
 use Rattle.language.specs.Tree as Tree
 use Rattle.naming.specs.Least.{least}
@@ -99,8 +99,8 @@ flatFault bytes written nodes conditions = faultBy bytes written (λ q. nodesUpT
 -- no limit is passed: of a sheet as it is written, with so many expressions and conditions
 pub record Within (written : List Raw.Rule) (exprs conditions : ℕ) : Type 0 where
   pub rules : length written ≤ 32
-  pub lists : All (λ r. length (places_of true r.params) ≤ 4) written
-  pub numbers : All (λ r. length (places_of false r.params) ≤ 8) written
+  pub lists : AllByRecursion (λ r. length (places_of true r.params) ≤ 4) written
+  pub numbers : AllByRecursion (λ r. length (places_of false r.params) ≤ 8) written
   pub exprs-few : exprs ≤ 1024
   pub conditions-few : conditions ≤ 128
 

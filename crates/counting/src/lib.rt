@@ -1,4 +1,6 @@
 // What a sheet may have, and the first place past that.
+#![tactic(auto)]
+
 mod fault;
 mod heads;
 pub mod placed;

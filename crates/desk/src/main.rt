@@ -1,4 +1,6 @@
 // The desk: commands from standard input, one a line, each answered at once.
+#![tactic(auto)]
+
 mod answering;
 mod by_hand;
 mod commands;

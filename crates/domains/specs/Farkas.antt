@@ -1,5 +1,5 @@
 -- Farkas' lemma, the way that is needed: multipliers that meet the condition show that the goal follows.
-use Rattle.std.specs.Prelude.{◌≡◌, ℕ, ◌+◌, Bool, true, false, cond, ◌&&◌, List, [], ◌∷◌, ℤ, pos, ◌+ℤ◌, ◌-ℤ◌, ◌*ℤ◌, neg_ℤ, ◌≤ℤ◌, refl}
+use Rattle.std.specs.Prelude.{◌≡◌, ℕ, true, List, [], ◌∷◌, ℤ, pos, ◌+ℤ◌, ◌-ℤ◌, ◌*ℤ◌, neg_ℤ, ◌≤ℤ◌}
 use Rattle.std.proofs.Math.Path.{sym, ap₂}
 use Rattle.std.proofs.Common.{ap, subst, ◌∙◌, arith}
 use Rattle.std.proofs.Math.IntN.{zero-*ℤ}
@@ -11,11 +11,11 @@ use Rattle.ints.proofs.Sums.{at, at_sum, at-times, at-neg, at-zeros, at_none}
 use Rattle.rows.specs.declared.row.Row.{Row}
 use Rattle.rows.specs.declared.row.Kind.{Kind}
 use Rattle.rows.specs.declared.row.Kind.TheVariants.{AtMost, Unequal}
-use Rattle.rows.specs.Meaning.{coef, value, Holds, Meets, MeetsAll, Follows, Assignment}
+use Rattle.rows.specs.Meaning.{coef, value, Holds, MeetsAll, Follows, Assignment}
 use Rattle.rows.specs.Questions.{wellShaped}
 use Rattle.rows.proofs.Shapes.{at-most-is}
 use Rattle.domains.specs.declared.fault.Reason.TheVariants.{Shape, Number, Kind as OfKind, Sum}
-use Rattle.domains.specs.declared.linear.Column.TheVariants.{Coef, Bound}
+use Rattle.domains.specs.declared.linear.Column.TheVariants.{Coef}
 use Rattle.domains.specs.Faults.{Good}
 use Rattle.domains.specs.Linear.{weigh, total, numbers, kindOk, kinds, fitting, sums, linear}
 use Rattle.domains.specs.Outcomes.{good-parts}

@@ -1,5 +1,5 @@
 -- The modes domain: every assignment of 0 to 15 to the quantities that occur.
-use Rattle.std.specs.Prelude.{◌≡◌, ℕ, zero, suc, Bool, true, false, cond, not, ◌&&◌, ◌||◌, List, [], ◌∷◌, length, replicate, ℤ, pos, Ok, Err, ◌==◌, nat_le, slice_index, slice_set}
+use Rattle.std.specs.Prelude.{◌≡◌, ℕ, zero, suc, Bool, false, cond, not, ◌&&◌, ◌||◌, List, [], ◌∷◌, length, replicate, ℤ, pos, Ok, Err, ◌==◌, nat_le, slice_index, slice_set}
 use Rattle.ints.specs.Tests.{is_zero, anyBelow, countBelow}
 use Rattle.rows.specs.declared.row.Row.{Row}
 use Rattle.rows.specs.Meaning.{Assignment, coef, Meets, MeetsAll, Within, Follows}

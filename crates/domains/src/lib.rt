@@ -1,4 +1,6 @@
 // Index domains: what decides that a goal follows from facts, by a certificate that nobody has to believe.
+#![tactic(auto)]
+
 pub mod domain;
 pub mod fault;
 pub mod linear;

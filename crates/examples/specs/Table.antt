@@ -1,5 +1,5 @@
 -- The table of worked examples that are proved by computing.
-use Rattle.std.specs.Prelude.{◌≡◌, ℕ, true, ◌&&◌, List, [], ◌∷◌, replicate, ℤ, pos, negsuc, None, Ok, refl}
+use Rattle.std.specs.Prelude.{◌≡◌, true, ◌&&◌, List, [], ◌∷◌, replicate, ℤ, pos, negsuc, None, Ok, refl}
 use Rattle.std.proofs.Common.{ap₂}
 use Rattle.rows.specs.declared.row.Row.{Row}
 use Rattle.rows.specs.declared.row.Kind.TheVariants.{AtMost}

@@ -1,4 +1,6 @@
 // Every worked example, run and compared with what it must give.
+#![tactic(auto)]
+
 ghost use Rattle.examples.specs.Table.{Table};
 
 mod questions;

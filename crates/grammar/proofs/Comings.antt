@@ -1,7 +1,7 @@
 -- How answers with enough fuel compose.
-use Rattle.std.proofs.Common.{◌≡◌, ℕ, zero, suc, ◌≤◌, max, Bool, true, false, cond, sym, refl, ap, ◌∙◌, arith}
+use Rattle.std.proofs.Common.{◌≡◌, ℕ, zero, suc, ◌≤◌, max, Bool, true, false, cond, refl, ap, ◌∙◌, arith}
 use Rattle.letters.specs.declared.token.Token.{Token}
-use Rattle.grammar.specs.Parsers.{Look, Ans, done, fault, P, then, give, stop, next, seq, when, wanted, turn, chain}
+use Rattle.grammar.specs.Parsers.{Look, Ans, done, fault, P, then, give, stop, next, seq, when, wanted, turn}
 use Rattle.grammar.specs.Held.{Comes}
 use Rattle.grammar.proofs.Loops.{Chained}
 

@@ -1,7 +1,7 @@
 -- What an answer says of the parts of a parser.
 use Rattle.std.proofs.Common.{◌≡◌, ℕ, suc, Bool, true, false, cond, ◌⊎◌, refl, inl, inr, arith}
 use Rattle.letters.specs.declared.token.Token.{Token}
-use Rattle.grammar.specs.Parsers.{Look, Ans, done, fault, spent, P, then, give, stop, next, seq, when, wanted}
+use Rattle.grammar.specs.Parsers.{Look, Ans, done, fault, spent, P, then, stop, next, seq, when, wanted}
 
 pub no-fault : {X : Type 0} {i j : ℕ} {x : X} → fault i ≡ done x j → ⊥
 no-fault e = let z : ◌≡◌ {A = ℕ} 0 1 = cc in omega arith

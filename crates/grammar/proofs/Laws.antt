@@ -1,5 +1,5 @@
 -- How steps of a parse compose.
-use Rattle.std.proofs.Common.{◌≡◌, ℕ, zero, suc, ◌<◌, ◌≤◌, max, Bool, true, false, cond, T, eqb, List, [], ◌∷◌, ◌++◌, length, IsErrAnd, Ok, Err, Result, sym, refl, ap, ◌∙◌, subst, ap₂, append_assoc, append-nil, arith, eqb→eq}
+use Rattle.std.proofs.Common.{◌≡◌, ℕ, zero, suc, ◌<◌, ◌≤◌, max, Bool, true, false, cond, T, eqb, List, [], ◌++◌, length, IsErrAnd, Ok, Err, Result, sym, refl, ap, ◌∙◌, subst, ap₂, append_assoc, append-nil, arith, eqb→eq}
 use native.Mathlib.Decide.{dec_lt}
 use Rattle.std.proofs.lemmas.List.{get_or_past}
 use Rattle.std.proofs.lemmas.Result.{err_from_is_err_and}
@@ -7,10 +7,9 @@ use Rattle.letters.specs.declared.kind.Kind.{Kind}
 use Rattle.letters.specs.declared.kind.Kind.TheVariants.{End}
 use Rattle.letters.specs.declared.token.Token.{Token}
 use Rattle.letters.specs.Kinds.{number, sameKind}
-use Rattle.grammar.specs.declared.node.Node.{Node}
-use Rattle.grammar.specs.Parsers.{Look, lookIn, is_a, Ans, done, fault, spent, P, then, give, stop, next, seq, when, turn, chain}
+use Rattle.grammar.specs.Parsers.{lookIn, is_a, Ans, done, P, then, give, stop, next, seq, when}
 use Rattle.grammar.specs.Trees.{look_of}
-use Rattle.grammar.specs.Held.{OnOk, Held, look, tokenCount, sheet, Lasts, Taken, Any, Comes, Fine, Failed, Told, Went, Bumped}
+use Rattle.grammar.specs.Held.{OnOk, Held, look, sheet, Lasts, Taken, Any, Comes, Told, Went, Bumped}
 
 -- lasting
 pub lasts-refl : (s : Held) → Lasts s s

@@ -2,8 +2,8 @@
 use Rattle.std.proofs.Common.{◌≡◌, ℕ, Bool, true, List, length, Result, refl, ap, ◌∙◌}
 use Rattle.letters.specs.declared.kind.Kind.{Kind}
 use Rattle.letters.specs.declared.kind.Kind.TheVariants.{Comma, Times}
-use Rattle.grammar.specs.Raw.{Expr, Args, Condition, Param}
-use Rattle.grammar.specs.Parsers.{is_a, done, P, seq}
+use Rattle.grammar.specs.Raw.{Condition, Param}
+use Rattle.grammar.specs.Parsers.{is_a, done, seq}
 use Rattle.grammar.specs.Sheets.{sumSign, conditionsS, optionalS, paramsS, exprBy, atomBy, argsBy, calcOn, argOn, exprS, sumS, sumFromS, productS, productFromS, argsS, argsFromS, atomS}
 use Rattle.grammar.specs.Stretches.{conditionsAt, optionalAt, params_at}
 use Rattle.grammar.specs.Trees.{Source, look_of}

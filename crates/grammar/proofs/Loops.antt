@@ -1,7 +1,7 @@
 -- Loops: while the token at hand is such a one, past it and one step more.
-use Rattle.std.proofs.Common.{◌≡◌, ℕ, suc, ◌≤◌, Bool, true, false, Ok, Err, Result, sym, refl, ap, subst, arith}
+use Rattle.std.proofs.Common.{◌≡◌, ℕ, suc, ◌≤◌, Bool, true, false, Ok, Err, Result, sym, refl, arith}
 use Rattle.letters.specs.declared.token.Token.{Token}
-use Rattle.grammar.specs.Parsers.{P, give, next, seq, turn, chain}
+use Rattle.grammar.specs.Parsers.{P, next, turn, chain}
 use Rattle.grammar.specs.Held.{Held, look, tokenCount, Taken, Went}
 use Rattle.grammar.proofs.Laws.{fuelled, on-yes, on-no, seq-ok, seq-err, gives}
 

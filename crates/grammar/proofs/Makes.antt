@@ -1,11 +1,11 @@
 -- Nodes that are made, and what stands while others are.
-use Rattle.std.proofs.Common.{◌≡◌, ℕ, suc, ◌<◌, List, [], ◌∷◌, ◌++◌, length, Some, Ok, sym, refl, ap, ◌∙◌, ap₂, append-nil, arith, length-append}
+use Rattle.std.proofs.Common.{◌≡◌, ℕ, ◌<◌, [], ◌∷◌, ◌++◌, length, Some, Ok, sym, ap, ◌∙◌, ap₂, append-nil, arith, length-append}
 use Rattle.letters.specs.declared.token.Token.{Token}
 use Rattle.grammar.specs.declared.node.Node.{Node}
 use Rattle.grammar.specs.declared.node.Node.TheVariants.{NoArgs}
 use Rattle.grammar.specs.Raw.{Expr, Args, none}
 use Rattle.grammar.specs.Parsers.{done, give}
-use Rattle.grammar.specs.Trees.{Source, Part, look_of, grownExpr, grownArgs, partIn, rawAt, argsAt, ruleIn}
+use Rattle.grammar.specs.Trees.{Part, look_of, grownExpr, grownArgs, partIn, rawAt, ruleIn}
 use Rattle.grammar.specs.Held.{Held, look, sheet, Lasts, Taken, Stands, ArgsStand, Went, Pushed}
 use Rattle.grammar.proofs.Parts.{kept, made, rules-made}
 

@@ -1,5 +1,5 @@
 -- An item and a param, as they are read token by token.
-use Rattle.std.proofs.Common.{◌≡◌, ℕ, suc, ◌+◌, Bool, true, false, cond, sym, refl, ap, ◌∙◌, arith}
+use Rattle.std.proofs.Common.{◌≡◌, ℕ, suc, ◌+◌, Bool, true, false, cond, sym, ap, ◌∙◌, arith}
 use Rattle.letters.specs.declared.kind.Kind.TheVariants.{Numeral, Times, OpenSquare}
 use Rattle.letters.specs.declared.token.Token.{Token}
 use Rattle.grammar.specs.Parsers.{Look, is_a}

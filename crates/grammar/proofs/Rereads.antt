@@ -1,14 +1,14 @@
 -- Conditions and params that were parsed are read again as they were.
-use Rattle.std.proofs.Common.{◌≡◌, ℕ, zero, suc, ◌+◌, ◌<◌, ◌≤◌, Bool, true, false, cond, eqb, ◌⊎◌, List, [], ◌∷◌, ◌++◌, length, sym, refl, ap, ◌∙◌, ap₂, inl, inr, arith}
+use Rattle.std.proofs.Common.{◌≡◌, ℕ, zero, suc, ◌+◌, ◌≤◌, Bool, true, false, cond, eqb, List, [], ◌∷◌, ◌++◌, length, sym, refl, ap, ◌∙◌, ap₂, inl, inr, arith}
 use Rattle.std.proofs.lemmas.List.{get_or_past}
 use Rattle.letters.specs.declared.kind.Kind.{Kind}
 use Rattle.letters.specs.declared.kind.Kind.TheVariants.{Name, Numeral, Close, OpenSquare, CloseSquare, Comma, Minus, Times, Plus, End}
 use Rattle.letters.specs.declared.token.Token.{Token}
 use Rattle.letters.specs.Kinds.{number, sameKind}
 use Rattle.grammar.specs.Raw.{Item, Side, Condition, Param}
-use Rattle.grammar.specs.Parsers.{Look, is_a, done, P, give, next, seq, when, on, wanted, want, turn, chain}
+use Rattle.grammar.specs.Parsers.{Look, is_a, done, P, give, seq, chain}
 use Rattle.grammar.specs.Sheets.{sumSign, compares, quantity, plainItem, timesItem, itemS, itemOn, sideS, conditionOf, conditionS, conditionOn, conditionsS, optionalS, numberParam, listParam, paramS, paramOn, paramsS}
-use Rattle.grammar.specs.Stretches.{Past, past, joined, item_at, itemAfter, sideAt, rightAt, conditionAt, conditionAfter, conditionsAt, optionalAt, param_at, paramAfter, params_at}
+use Rattle.grammar.specs.Stretches.{Past, past, joined, item_at, itemAfter, sideAt, conditionAt, conditionAfter, conditionsAt, optionalAt, param_at, paramAfter, params_at}
 use Rattle.grammar.specs.Trees.{Source, look_of}
 use Rattle.grammar.specs.Held.{Comes}
 use Rattle.grammar.proofs.Inverts.{no-spent, seq-inv, when-inv, next-then, want-then, done-val, done_at}

@@ -1,10 +1,10 @@
 -- Rules, one after the other.
-use Rattle.std.proofs.Common.{◌≡◌, ℕ, suc, ◌≤◌, true, false, List, [], ◌∷◌, ◌++◌, Ok, Err, sym, refl, ap, ◌∙◌, subst, arith}
+use Rattle.std.proofs.Common.{◌≡◌, ℕ, suc, true, false, [], ◌∷◌, ◌++◌, Ok, Err, sym, refl, ap, ◌∙◌, subst}
 use Rattle.letters.specs.declared.kind.Kind.TheVariants.{Rule, End}
 use Rattle.letters.specs.declared.token.Token.{Token}
 use Rattle.grammar.specs.declared.node.Node.{Node}
 use Rattle.grammar.specs.Raw.{Sheet}
-use Rattle.grammar.specs.Parsers.{Look, Ans, done, fault, is_a, give, stop, on, chain}
+use Rattle.grammar.specs.Parsers.{Look, Ans, done, fault, is_a, chain}
 use Rattle.grammar.specs.Sheets.{ruleS, ruleOn, sheetS}
 use Rattle.grammar.specs.Trees.{look_of}
 use Rattle.grammar.specs.Held.{Held, look, tokenCount, sheet, Comes, Failed, RuleStands, Went, Bumped, Pushed}

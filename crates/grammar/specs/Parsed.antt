@@ -7,7 +7,7 @@ use Rattle.grammar.specs.declared.unread.Unread.TheVariants.{Full, Fault}
 use Rattle.grammar.specs.Parsers.{lookIn, done, fault}
 use Rattle.grammar.specs.Sheets.{sheetS}
 use Rattle.grammar.specs.Trees.{Source, rulesTo}
-use Rattle.grammar.specs.Held.{Held, look, tokenCount, sheet, Comes, Failed}
+use Rattle.grammar.specs.Held.{Held, look, sheet, Comes, Failed}
 
 abbrev pub source_of : List Token → ℕ → Source
 source_of ts e = record { tokens = ts; end = e }

@@ -1,5 +1,5 @@
 -- The tree of a sheet as it is written: its tokens by the grammar, before any name is looked up.
-use Rattle.std.specs.Prelude.{Bool, List, [], ◌∷◌, Option}
+use Rattle.std.specs.Prelude.{Bool, List, Option}
 use Rattle.letters.specs.declared.token.Token.{Token}
 
 -- an item of a side: after a minus or not, a factor if one is written, and a numeral, a name or `result`

@@ -5,7 +5,7 @@ use Rattle.letters.specs.declared.kind.Kind.TheVariants.{Name, Numeral, Rule, Ne
 use Rattle.letters.specs.declared.token.Token.{Token}
 use Rattle.grammar.specs.Raw.{Item, Side, Condition, Expr, Args, num, name, calc, read, call, bind, test, put, claim, nest, none, more, Param, Sheet}
 use Rattle.grammar.specs.Raw as raw
-use Rattle.grammar.specs.Parsers.{P, is_a, give, stop, out, next, seq, when, on, wanted, want, turn, chain}
+use Rattle.grammar.specs.Parsers.{P, is_a, give, stop, out, next, seq, on, wanted, want, turn, chain}
 
 -- kinds of tokens that stand in one place
 abbrev pub sumSign : Token → Bool

@@ -1,5 +1,5 @@
 -- Conditions and params are flat stretches of tokens. They are read from a position on, whatever stands there; n bounds how many are joined.
-use Rattle.std.specs.Prelude.{ℕ, zero, suc, Bool, true, false, cond, List, [], ◌∷◌, ◌++◌}
+use Rattle.std.specs.Prelude.{ℕ, zero, suc, Bool, false, cond, List, [], ◌∷◌, ◌++◌}
 use Rattle.letters.specs.declared.kind.Kind.{Kind}
 use Rattle.letters.specs.declared.kind.Kind.TheVariants.{Numeral, Close, OpenSquare, Comma, Minus, Times}
 use Rattle.letters.specs.declared.token.Token.{Token}

@@ -1,5 +1,5 @@
 -- The trees that nodes stand for. A node is read from its tokens and its parts, which are to lie below it.
-use Rattle.std.specs.Prelude.{ℕ, zero, suc, Bool, cond, List, [], ◌∷◌, ◌++◌, length, Some, None, Option, nat_lt}
+use Rattle.std.specs.Prelude.{ℕ, zero, suc, cond, List, [], ◌∷◌, ◌++◌, length, Some, None, Option, nat_lt}
 use Rattle.std.specs.List.{slice_get}
 use Rattle.letters.specs.declared.kind.Kind.TheVariants.{End, Needs, Gives}
 use Rattle.letters.specs.declared.token.Token.{Token}

@@ -1,4 +1,6 @@
 // The grammar: tokens into the tree of a sheet, which lies in flat nodes.
+#![tactic(auto)]
+
 mod descent;
 mod flat;
 pub mod node;

@@ -1,5 +1,5 @@
 -- What the test for zero says of an integer, and of the bits of one.
-use Rattle.std.proofs.Common.{◌≡◌, ℕ, zero, suc, true, false, ℤ, pos, negsuc, sym, refl, ap, ◌∙◌, pow_pos, SFits, to_z, of_z}
+use Rattle.std.proofs.Common.{◌≡◌, zero, suc, true, false, ℤ, pos, negsuc, sym, refl, ap, ◌∙◌, pow_pos, SFits, to_z, of_z}
 use mir.Syntax.{Width}
 use mir.Val.{hbits}
 use Rattle.std.proofs.lemmas.Int.{to_z-of_z, to_z_pos}

@@ -1,7 +1,7 @@
 -- Assignments: a value for a fresh quantity, and the values with which a rule's body begins.
 use Rattle.std.proofs.Common.{◌≡◌, ℕ, zero, suc, ◌+◌, ◌<◌, ◌≤◌, Bool, true, false, cond, T, eqb, List, [], ◌∷◌, map, length, get_or, drop, ℤ, pos, ◌≤ℤ◌, sym, refl, ap, ◌∙◌, ap₂, add-zero, zero-add, arith}
 use lib.Signed.{le_z, le_z_yes}
-use Rattle.std.specs.List.{range_with_len, AllByRecursion as All}
+use Rattle.std.specs.List.{range_with_len, AllByRecursion}
 use Rattle.std.proofs.lemmas.Int.{ints}
 use Rattle.std.proofs.lemmas.Bool.{eq-eqb, ne_eqb}
 use Rattle.rows.specs.Meaning.{Assignment, Within}
@@ -42,10 +42,10 @@ assign-within low high q n v h t j l = go (eqb j n)
 abbrev pub valued : List ℤ → Assignment
 valued xs i = get_or xs i (pos 0)
 
-pub valued-within : (low high : ℤ) → T (in_range low high (pos 0)) → (xs : List ℤ) → All (λ v. T (in_range low high v)) xs → Within low high (valued xs)
+pub valued-within : (low high : ℤ) → T (in_range low high (pos 0)) → (xs : List ℤ) → AllByRecursion (λ v. T (in_range low high v)) xs → Within low high (valued xs)
 valued-within low high z xs h j l = in-range low high (valued xs j) (go xs j h)
   where
-    go : (xs : List ℤ) (j : ℕ) → All (λ v. T (in_range low high v)) xs → T (in_range low high (valued xs j))
+    go : (xs : List ℤ) (j : ℕ) → AllByRecursion (λ v. T (in_range low high v)) xs → T (in_range low high (valued xs j))
     go [] j h = z
     go (x ∷ xs) zero h = h.0
     go (x ∷ xs) (suc j) h = go xs j h.1
@@ -80,7 +80,7 @@ atLists-stable n (aList ∷ ps) (t ∷ ts) h zero = h zero
 atLists-stable n (aList ∷ ps) (t ∷ ts) h (suc i) = atLists-stable n ps ts (λ j. h (suc j)) i
 
 -- each length is at least 0
-pub lengths-made : (q : Assignment) (ts : List Term) (ps : List Part) → map (worth q) ts ≡ map length_of ps → All (IfMade q) (map (at_most (pos 0) zeroTerm) ts)
+pub lengths-made : (q : Assignment) (ts : List Term) (ps : List Part) → map (worth q) ts ≡ map length_of ps → AllByRecursion (IfMade q) (map (at_most (pos 0) zeroTerm) ts)
 lengths-made q [] ps e = tt
 lengths-made q (t ∷ ts) [] e = let no : ◌≡◌ {A = ℕ} 0 1 = cc in let bad : ⊥ = omega arith in absurd bad
 lengths-made q (t ∷ ts) (p ∷ ps) e =
@@ -88,6 +88,6 @@ lengths-made q (t ∷ ts) (p ∷ ps) e =
     let z = worth-constant q (pos 0) in
     (λ r m. at-most-meets (pos 0) zeroTerm t r m q (omega (arith, ints)), lengths-made q ts ps (ap (λ (l : List ℤ). drop 1 l) e))
 
-pub lengths-firm : (n : ℕ) (ts : List Term) → StableAll n ts → All (IfFirm n) (map (at_most (pos 0) zeroTerm) ts)
+pub lengths-firm : (n : ℕ) (ts : List Term) → StableAll n ts → AllByRecursion (IfFirm n) (map (at_most (pos 0) zeroTerm) ts)
 lengths-firm n [] h = tt
 lengths-firm n (t ∷ ts) h = (firm-at-most n (pos 0) zeroTerm t (stable-constant n (pos 0)) (h zero), lengths-firm n ts (λ i. h (suc i)))

@@ -1,7 +1,7 @@
 -- What the rows of comparisons and conditions say: they hold just where the comparison does, and mention only what its terms do.
 use Rattle.std.proofs.Common.{◌≡◌, ℕ, Bool, true, false, cond, not, ◌&&◌, T, List, [], ◌∷◌, map, get_or, ℤ, pos, ◌+ℤ◌, ◌-ℤ◌, ◌*ℤ◌, ◌≤ℤ◌, Some, None, Option, sym, refl, ap, ◌∙◌, subst, ap₂, subst₂, arith}
 use lib.Dec.{not_T}
-use Rattle.std.specs.List.{AllByRecursion as All}
+use Rattle.std.specs.List.{AllByRecursion}
 use Rattle.std.proofs.lemmas.Int.{ints}
 use Rattle.ints.specs.Sums.{sum_to}
 use Rattle.ints.specs.Tests.{eqZ}
@@ -16,7 +16,7 @@ use Rattle.language.specs.declared.sign.Comparison.{Comparison}
 use Rattle.language.specs.declared.sign.Comparison.TheVariants.{Less, LessOrEqual, Equal, NotEqual}
 use Rattle.language.specs.Vocabulary.{holds}
 use Rattle.language.specs.Tree.{Atom, one, named, result, Side, Condition}
-use Rattle.language.specs.Terms.{constant, minus, scaled, worth, fitsTerm}
+use Rattle.language.specs.Terms.{minus, scaled, worth, fitsTerm}
 use Rattle.language.specs.Comparing.{at_most, unequal, rows, otherwise, sideValue, satisfied, atomValue, atomTerm, sideTerm, conditionRows}
 use Rattle.language.proofs.Tests.{none-some}
 use Rattle.language.proofs.Worths.{worth-constant, worth-plus, worth-minus, worth-scaled, worths-at, Agree, Stable, StableAll, stable-constant, stable-plus, stable-scaled}
@@ -88,7 +88,7 @@ not-not false h = h
 eq-from : (x y : ℤ) → T (eqZ x y) → x ≡ y
 eq-from x y h = grind (arith, ints)
 
-pub rows-from : (c : Comparison) (q : Assignment) (t u : Term) → T (holds c (worth q t) (worth q u)) → All (IfMade q) (rows c t u)
+pub rows-from : (c : Comparison) (q : Assignment) (t u : Term) → T (holds c (worth q t) (worth q u)) → AllByRecursion (IfMade q) (rows c t u)
 rows-from Less q t u h = (λ r e. at-most-meets (pos 1) t u r e q (grind (arith, ints)), tt)
 rows-from LessOrEqual q t u h = (λ r e. at-most-meets (pos 0) t u r e q (grind (arith, ints)), tt)
 rows-from Equal q t u h =
@@ -96,7 +96,7 @@ rows-from Equal q t u h =
     (λ r e. at-most-meets (pos 0) t u r e q (omega (arith, ints)), (λ r e. at-most-meets (pos 0) u t r e q (omega (arith, ints)), tt))
 rows-from NotEqual q t u h = (λ r e. unequal-meets t u r e q (λ x. grind (arith, ints)), tt)
 
-pub rows-to : (c : Comparison) (q : Assignment) (t u : Term) → All (Surely q) (rows c t u) → T (holds c (worth q t) (worth q u))
+pub rows-to : (c : Comparison) (q : Assignment) (t u : Term) → AllByRecursion (Surely q) (rows c t u) → T (holds c (worth q t) (worth q u))
 rows-to Less q t u h = let x = at-most-met (pos 1) t u h.0.row h.0.made q h.0.met in grind (arith, ints)
 rows-to LessOrEqual q t u h = let x = at-most-met (pos 0) t u h.0.row h.0.made q h.0.met in grind (arith, ints)
 rows-to Equal q t u h =
@@ -105,7 +105,7 @@ rows-to Equal q t u h =
     grind (arith, ints)
 rows-to NotEqual q t u h = let x = unequal-met t u h.0.row h.0.made q h.0.met in not_T (eqZ (worth q t) (worth q u)) (λ y. x (eq-from (worth q t) (worth q u) y))
 
-pub otherwise-from : (c : Comparison) (q : Assignment) (t u : Term) → T (not (holds c (worth q t) (worth q u))) → All (IfMade q) (otherwise c t u)
+pub otherwise-from : (c : Comparison) (q : Assignment) (t u : Term) → T (not (holds c (worth q t) (worth q u))) → AllByRecursion (IfMade q) (otherwise c t u)
 otherwise-from Less q t u h = rows-from LessOrEqual q u t (grind (arith, ints))
 otherwise-from LessOrEqual q t u h = rows-from Less q u t (grind (arith, ints))
 otherwise-from Equal q t u h = rows-from NotEqual q t u h
@@ -115,14 +115,14 @@ pub firm-at-most : (n : ℕ) (k : ℤ) (t u : Term) → Stable n t → Stable n 
 firm-at-most n k t u a b r e q p g m =
     at-most-meets k t u r e p (subst₂ (λ (x : ℤ) (y : ℤ). (x +ℤ k) ≤ℤ y) (a q p g) (b q p g) (at-most-met k t u r e q m))
 
-pub rows-firm : (c : Comparison) (n : ℕ) (t u : Term) → Stable n t → Stable n u → All (IfFirm n) (rows c t u)
+pub rows-firm : (c : Comparison) (n : ℕ) (t u : Term) → Stable n t → Stable n u → AllByRecursion (IfFirm n) (rows c t u)
 rows-firm Less n t u a b = (firm-at-most n (pos 1) t u a b, tt)
 rows-firm LessOrEqual n t u a b = (firm-at-most n (pos 0) t u a b, tt)
 rows-firm Equal n t u a b = (firm-at-most n (pos 0) t u a b, (firm-at-most n (pos 0) u t b a, tt))
 rows-firm NotEqual n t u a b =
     (λ r e q p g m. unequal-meets t u r e p (subst₂ (λ (x : ℤ) (y : ℤ). x ≡ y → ⊥) (a q p g) (b q p g) (unequal-met t u r e q m)), tt)
 
-pub otherwise-firm : (c : Comparison) (n : ℕ) (t u : Term) → Stable n t → Stable n u → All (IfFirm n) (otherwise c t u)
+pub otherwise-firm : (c : Comparison) (n : ℕ) (t u : Term) → Stable n t → Stable n u → AllByRecursion (IfFirm n) (otherwise c t u)
 otherwise-firm Less n t u a b = rows-firm LessOrEqual n u t b a
 otherwise-firm LessOrEqual n t u a b = rows-firm Less n u t b a
 otherwise-firm Equal n t u a b = rows-firm NotEqual n t u a b
@@ -155,11 +155,11 @@ module _ (n : ℕ) (ts : List Term) (r : Term) (h : StableAll n ts) (k : Stable 
       stable-plus n (scaled i.factor (atomTerm ts r i.atom)) (sideTerm ts r is)
       (stable-scaled n i.factor (atomTerm ts r i.atom) (stable-atom i.atom)) (stable-side is)
 
-  pub condition-firm : (c : Condition) → All (IfFirm n) (conditionRows ts r c)
+  pub condition-firm : (c : Condition) → AllByRecursion (IfFirm n) (conditionRows ts r c)
   unfolding conditionRows
   condition-firm c = go (fitsTerm (sideTerm ts r c.left) && fitsTerm (sideTerm ts r c.right))
     where
-      go : (b : Bool) → All (IfFirm n) (cond b (rows c.comparison (sideTerm ts r c.left) (sideTerm ts r c.right)) (None ∷ []))
+      go : (b : Bool) → AllByRecursion (IfFirm n) (cond b (rows c.comparison (sideTerm ts r c.left) (sideTerm ts r c.right)) (None ∷ []))
       go true = rows-firm c.comparison n (sideTerm ts r c.left) (sideTerm ts r c.right) (stable-side c.left) (stable-side c.right)
       go false = (λ x e. absurd (none-some x e), tt)
 
@@ -168,18 +168,18 @@ module _ (q : Assignment) (ts : List Term) (r : Term) (xs : List ℤ) (v : ℤ) 
   side-is : (side : Side) → worth q (sideTerm ts r side) ≡ sideValue xs v side
   side-is side = worth-side q ts r side ∙ ap₂ (λ (x : List ℤ) (y : ℤ). sideValue x y side) ex ev
 
-  pub condition-from : (c : Condition) → T (satisfied xs v c) → All (IfMade q) (conditionRows ts r c)
+  pub condition-from : (c : Condition) → T (satisfied xs v c) → AllByRecursion (IfMade q) (conditionRows ts r c)
   unfolding conditionRows
   condition-from c h = go (fitsTerm (sideTerm ts r c.left) && fitsTerm (sideTerm ts r c.right))
     where
-      go : (b : Bool) → All (IfMade q) (cond b (rows c.comparison (sideTerm ts r c.left) (sideTerm ts r c.right)) (None ∷ []))
+      go : (b : Bool) → AllByRecursion (IfMade q) (cond b (rows c.comparison (sideTerm ts r c.left) (sideTerm ts r c.right)) (None ∷ []))
       go true = rows-from c.comparison q (sideTerm ts r c.left) (sideTerm ts r c.right) (subst₂ (λ (x : ℤ) (y : ℤ). T (holds c.comparison x y)) (sym (side-is c.left)) (sym (side-is c.right)) h)
       go false = (λ x e. absurd (none-some x e), tt)
 
-  pub condition-to : (c : Condition) → All (Surely q) (conditionRows ts r c) → T (satisfied xs v c)
+  pub condition-to : (c : Condition) → AllByRecursion (Surely q) (conditionRows ts r c) → T (satisfied xs v c)
   unfolding conditionRows
   condition-to c = go (fitsTerm (sideTerm ts r c.left) && fitsTerm (sideTerm ts r c.right))
     where
-      go : (b : Bool) → All (Surely q) (cond b (rows c.comparison (sideTerm ts r c.left) (sideTerm ts r c.right)) (None ∷ [])) → T (satisfied xs v c)
+      go : (b : Bool) → AllByRecursion (Surely q) (cond b (rows c.comparison (sideTerm ts r c.left) (sideTerm ts r c.right)) (None ∷ [])) → T (satisfied xs v c)
       go true h = subst₂ (λ (x : ℤ) (y : ℤ). T (holds c.comparison x y)) (side-is c.left) (side-is c.right) (rows-to c.comparison q (sideTerm ts r c.left) (sideTerm ts r c.right) h)
       go false h = absurd (none-some h.0.row h.0.made)

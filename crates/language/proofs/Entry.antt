@@ -1,7 +1,7 @@
 -- The entry of a run: what it tests is what a rule is entered with, and the two runs of an open book agree.
 use Rattle.std.proofs.Common.{◌≡◌, ℕ, zero, suc, ◌+◌, Bool, true, false, cond, not, T, ltb, leb, List, [], ◌∷◌, map, length, ℤ, pos, ◌≤ℤ◌, Some, None, filter, Option, sym, refl, ap, ◌∙◌, subst, arith, leb→le}
 use lib.Signed.{le_z}
-use Rattle.std.specs.List.{AllByRecursion as All}
+use Rattle.std.specs.List.{AllByRecursion}
 use Rattle.std.proofs.ByRecursion.{All-weaker}
 use Rattle.std.proofs.lemmas.Int.{ints}
 use Rattle.std.proofs.lemmas.Bool.{true≢false, false≢true}
@@ -17,7 +17,7 @@ use Rattle.language.proofs.Same.{asBook, full, Ends, Both}
 use Rattle.language.proofs.Induction.{Good, PartOk, Inputs, BodyOk, run_sound, enter-sound}
 use Rattle.language.proofs.Tests.{both-from, both_left, both_right, cond-some, none-some}
 
-every-all : {A : Type 0} (p : A → Bool) (xs : List A) → T (every p xs) → All (λ x. T (p x)) xs
+every-all : {A : Type 0} (p : A → Bool) (xs : List A) → T (every p xs) → AllByRecursion (λ x. T (p x)) xs
 unfolding every
 every-all p [] h = tt
 every-all p (x ∷ xs) h = (both_left (p x) _ h, every-all p xs (both_right (p x) _ h))
@@ -26,7 +26,7 @@ every-all p (x ∷ xs) h = (both_left (p x) _ h, every-all p xs (both_right (p x
 record Gathered (low high : ℤ) (qs : List Param) (xs : List ℤ) (ps : List Part) (vs : List ℤ) : Type 0 where
   count : length vs ≡ length qs
   lengths : atLists qs vs ≡ map length_of ps
-  fits : All (λ x. T (in_range low high x)) xs → All (λ p. T (in_range low high (length_of p))) ps → All (λ x. T (in_range low high x)) vs
+  fits : AllByRecursion (λ x. T (in_range low high x)) xs → AllByRecursion (λ p. T (in_range low high (length_of p))) ps → AllByRecursion (λ x. T (in_range low high x)) vs
 
 gathered-is : (low high : ℤ) (qs : List Param) (xs : List ℤ) (ps : List Part) (vs : List ℤ) → gathered qs xs ps ≡ Some vs → Gathered low high qs xs ps vs
 unfolding gathered atLists
@@ -59,12 +59,12 @@ part-ok R P S size z p h = record {
   fits = both-from (le_z P.low (length_of p)) _ (let l : P.low ≤ℤ length_of p = omega (arith, ints) in l.le) (both_right (leb p.length 4096) _ (both_right (leb (p.start + p.length) size) _ h));
 }
 
-met-needs : (k : ℕ) (xs : List ℤ) (cs : List Condition) → firstBroken k xs cs ≡ None → All (λ c. T (satisfied xs (pos 0) c)) cs
+met-needs : (k : ℕ) (xs : List ℤ) (cs : List Condition) → firstBroken k xs cs ≡ None → AllByRecursion (λ c. T (satisfied xs (pos 0) c)) cs
 unfolding firstBroken
 met-needs k xs [] e = tt
 met-needs k xs (c ∷ cs) e = go (satisfied xs (pos 0) c) (met-needs (suc k) xs cs) e
   where
-    go : (b : Bool) → (firstBroken (suc k) xs cs ≡ None → All (λ c. T (satisfied xs (pos 0) c)) cs) → cond b (firstBroken (suc k) xs cs) (Some k) ≡ None → T b × All (λ c. T (satisfied xs (pos 0) c)) cs
+    go : (b : Bool) → (firstBroken (suc k) xs cs ≡ None → AllByRecursion (λ c. T (satisfied xs (pos 0) c)) cs) → cond b (firstBroken (suc k) xs cs) (Some k) ≡ None → T b × AllByRecursion (λ c. T (satisfied xs (pos 0) c)) cs
     go true f e = (tt, f e)
     go false f e = absurd (none-some k (sym e))
 
@@ -77,7 +77,7 @@ module _ (sheet : Sheet) (list : List ℕ) (S : Dropped) (same : (n : ℕ) → S
   made_one n passes es true false e = absurd (true≢false e)
   made_one n passes es false true e = absurd (false≢true e)
 
-  made_kept : (log : List Event) → All (Good sheet.rules S) log → madeIn (map (asBook S) log) ≡ filter (λ n. not (on list n)) (madeIn log)
+  made_kept : (log : List Event) → AllByRecursion (Good sheet.rules S) log → madeIn (map (asBook S) log) ≡ filter (λ n. not (on list n)) (madeIn log)
   unfolding madeIn
   made_kept [] h = refl
   made_kept (came n true passes ∷ es) h =
@@ -91,7 +91,7 @@ module _ (sheet : Sheet) (list : List ℕ) (S : Dropped) (same : (n : ℕ) → S
   sound (called f xs) h = h
   sound (returned f xs v) h = h
 
-  drops : (log : List Event) → All (DropsListed list) (map (asBook S) log)
+  drops : (log : List Event) → AllByRecursion (DropsListed list) (map (asBook S) log)
   drops [] = tt
   drops (came n made passes ∷ es) = (ap not (same n), drops es)
   drops (called f xs ∷ es) = (tt, drops es)
@@ -103,11 +103,11 @@ module _ (sheet : Sheet) (list : List ℕ) (S : Dropped) (same : (n : ℕ) → S
       made : madeIn o.log ≡ filter (λ n. not (on list n)) (madeIn p.log)
       made = ap madeIn h.log ∙ made_kept p.log h.good
 
-      good : All (Sound sheet list) p.log
+      good : AllByRecursion (Sound sheet list) p.log
       good = All-weaker (Good sheet.rules S) (Sound sheet list) sound p.log h.good
 
-      dropped : All (DropsListed list) o.log
-      dropped = subst (All (DropsListed list)) (sym h.log) (drops p.log)
+      dropped : AllByRecursion (DropsListed list) o.log
+      dropped = subst (AllByRecursion (DropsListed list)) (sym h.log) (drops p.log)
 
       go : (x : Outcome ℤ) → Ends N Q x → Agrees sheet list (end_of fuel (record { log = o.log; outcome = x })) (end_of fuel (record { log = p.log; outcome = x }))
       go (done v s) t = (record { kind = refl; value = refl; place = refl; steps = refl; bookChecks = refl; fullChecks = refl; cells = refl; made = made }, good, dropped)
@@ -138,7 +138,7 @@ module _ (sheet : Sheet) (list : List ℕ) (S : Dropped) (same : (n : ℕ) → S
               needs = met-needs 0 vs (ruleAt sheet.rules f).needs b;
             }
           where
-            at : (ps : List Part) → All (PartOk sheet.rules (program_of sheet) S (length cells)) ps → (j : ℕ) → PartOk sheet.rules (program_of sheet) S (length cells) (part_at ps j)
+            at : (ps : List Part) → AllByRecursion (PartOk sheet.rules (program_of sheet) S (length cells)) ps → (j : ℕ) → PartOk sheet.rules (program_of sheet) S (length cells) (part_at ps j)
             at [] h j = record { inside = omega arith; fits = zeroFits }
             at (p ∷ ps) h zero = h.0
             at (p ∷ ps) h (suc j) = at ps h.1 j

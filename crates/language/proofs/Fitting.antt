@@ -1,7 +1,7 @@
 -- Terms within their limits compare by rows within a row's limits, and the walk's terms keep theirs.
 use Rattle.std.proofs.Common.{◌≡◌, ℕ, zero, suc, ◌+◌, ◌<◌, Bool, true, false, cond, eqb, List, [], ◌∷◌, map, get_or, ℤ, pos, ◌-ℤ◌, neg_ℤ, ◌≤ℤ◌, is_some, Some, None, Option, sym, refl, ap, ◌∙◌, arith}
 use lib.Signed.{le_z}
-use Rattle.std.specs.List.{range_with_len, AllByRecursion as All}
+use Rattle.std.specs.List.{range_with_len, AllByRecursion}
 use Rattle.std.proofs.lemmas.Int.{ints}
 use Rattle.std.proofs.lemmas.Bool.{and_parts, and_from}
 use Rattle.ints.specs.Sums.{Near}
@@ -70,7 +70,7 @@ module _ (t u : Term) (ht : fitsTerm t ≡ true) (hu : fitsTerm u ≡ true) wher
 pub rows_fit : RowsFit
 rows_fit = record { made = go }
   where
-    go : (c : Comparison) (t u : Term) → fitsTerm t ≡ true → fitsTerm u ≡ true → All (λ o. is_some o ≡ true) (rows c t u)
+    go : (c : Comparison) (t u : Term) → fitsTerm t ≡ true → fitsTerm u ≡ true → AllByRecursion (λ o. is_some o ≡ true) (rows c t u)
     go Less t u a b = (at-most-made t u a b 1 (omega arith), tt)
     go LessOrEqual t u a b = (at-most-made t u a b 0 (omega arith), tt)
     go Equal t u a b = (at-most-made t u a b 0 (omega arith), (at-most-made u t b a 0 (omega arith), tt))
@@ -113,7 +113,7 @@ worked-fits Product t u v e = go (isConstant t) (isConstant u) e
     go false false e = absurd (none-some v e)
 
 abbrev Fit : List Term → Type 0
-Fit ts = All (λ t. fitsTerm t ≡ true) ts
+Fit ts = AllByRecursion (λ t. fitsTerm t ≡ true) ts
 
 fit_at : (ts : List Term) → Fit ts → (i : ℕ) → fitsTerm (termAt ts i) ≡ true
 fit_at [] h i = zero-fits

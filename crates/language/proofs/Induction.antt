@@ -1,7 +1,7 @@
 -- The induction: a book's run and its full run come to the same, and each value is what the walk's term is worth.
 use Rattle.std.proofs.Common.{◌≡◌, ℕ, zero, suc, ◌+◌, ◌<◌, ◌≤◌, true, not, T, ltb, leb, List, [], ◌∷◌, ◌++◌, map, length, get_or, ℤ, pos, Some, None, Option, sym, refl, ap, ◌∙◌, subst, ap₂, subst₂, le_trans, le_refl, arith, leb→le}
 use lib.Signed.{le_z, lt_z}
-use Rattle.std.specs.List.{range_with_len, AllByRecursion as All}
+use Rattle.std.specs.List.{range_with_len, AllByRecursion}
 use Rattle.std.proofs.lemmas.List.{map_push}
 use Rattle.rows.specs.declared.row.Row.{Row}
 use Rattle.rows.specs.Meaning.{Assignment, Within, MeetsAll}
@@ -9,7 +9,6 @@ use Rattle.language.specs.declared.part.Part.{Part}
 use Rattle.language.specs.declared.term.Term.{Term}
 use Rattle.language.specs.declared.ending.Ending.TheVariants.{Deep}
 use Rattle.language.specs.declared.refusal.Refusal.TheVariants.{Name}
-use Rattle.language.specs.declared.sign.Operator.{Operator}
 use Rattle.language.specs.Vocabulary.{reckoned, holds}
 use Rattle.language.specs.Tree.{Condition, Site, Expr, num, name, calc, read, call, bind, test, put, claim, Args, end, value, lent, noExpr, Param, a_number, aList, Rule, ruleAt, atLists, shape, lent_of}
 use Rattle.language.specs.Terms.{zeroTerm, quantity, worth, termAt, worked, constant, limited}
@@ -37,8 +36,8 @@ same_params (aList ∷ ps) (aList ∷ qs) h = ap (λ rs. aList ∷ rs) (same_par
 -- an event of a full run is good: a check is made, and passes if it is settled, a call meets its needs, a returned value meets its gives
 abbrev pub Good : List Rule → Dropped → Event → Type 0
 Good R S (came n made passes) = (made ≡ true) × (T (S n) → T passes)
-Good R S (called f xs) = All (λ c. T (satisfied xs (pos 0) c)) (ruleAt R f).needs
-Good R S (returned f xs v) = All (λ c. T (satisfied xs v c)) (ruleAt R f).gives
+Good R S (called f xs) = AllByRecursion (λ c. T (satisfied xs (pos 0) c)) (ruleAt R f).needs
+Good R S (returned f xs v) = AllByRecursion (λ c. T (satisfied xs v c)) (ruleAt R f).gives
 
 module _ (R : List Rule) (P : Program) (S : Dropped) (N : ℕ) where
   abbrev InRange : ℤ → Type 0
@@ -52,7 +51,7 @@ module _ (R : List Rule) (P : Program) (S : Dropped) (N : ℕ) where
   -- where the walk and the run stand
   pub record Here (q : Assignment) (Γ : Scope) (n : ℕ) (F : List Row) (E : Frame) : Type 0 where
     pub scope : OkScope n Γ
-    pub firm : All (Firm n) F
+    pub firm : AllByRecursion (Firm n) F
     pub range : Within P.low P.high q
     pub facts : MeetsAll q F
     pub names : map (worth q) Γ.names ≡ E.values
@@ -71,7 +70,7 @@ module _ (R : List Rule) (P : Program) (S : Dropped) (N : ℕ) where
   -- what a mode asks of a value; L are the values of its names
   abbrev pub Post : Mode → List ℤ → Assignment → ℕ → List Row → Term → ℤ → Type 0
   Post infer L q n F t v = Met q n F t v
-  Post (check ts cs) L q n F t v = InRange v × All (λ c. T (satisfied L v c)) cs
+  Post (check ts cs) L q n F t v = InRange v × AllByRecursion (λ c. T (satisfied L v c)) cs
 
   abbrev pub ModeAt : Mode → ℕ → Assignment → List ℤ → Type 0
   ModeAt infer n q L = Unit {0}
@@ -82,7 +81,7 @@ module _ (R : List Rule) (P : Program) (S : Dropped) (N : ℕ) where
   mode-on (check ts cs) n m q p L a u h = (stables-more n m ts u h.0, sym (worths-move n q p a ts h.0) ∙ h.1)
 
   here_on : {q : Assignment} {Γ : Scope} {n : ℕ} {F : List Row} {E : Frame} → Here q Γ n F E
-      → (p : Assignment) (m : ℕ) (G : List Row) → Agree n q p → n ≤ m → Within P.low P.high p → All (Firm m) G → MeetsAll p G → Here p Γ m G E
+      → (p : Assignment) (m : ℕ) (G : List Row) → Agree n q p → n ≤ m → Within P.low P.high p → AllByRecursion (Firm m) G → MeetsAll p G → Here p Γ m G E
   here_on {q} {Γ} {n} h p m G a u r s f = record {
     scope = scope-more n m Γ u h.scope;
     firm = s;
@@ -129,7 +128,7 @@ module _ (R : List Rule) (P : Program) (S : Dropped) (N : ℕ) where
 
   -- a value for the next quantity, of which conditions are facts
   with-met : {q : Assignment} {Γ : Scope} {E : Frame} (place : ℕ) (ts : List Term) (cs : List Condition) (s : Stand) (notes : List Note) → Here q Γ s.next s.facts E → s.next < 16
-      → (v : ℤ) → InRange v → (xs : List ℤ) → StableAll s.next ts → map (worth q) ts ≡ xs → All (λ c. T (satisfied xs v c)) cs
+      → (v : ℤ) → InRange v → (xs : List ℤ) → StableAll s.next ts → map (worth q) ts ≡ xs → AllByRecursion (λ c. T (satisfied xs v c)) cs
       → Met q s.next (freshWith place ts cs s notes).stand.facts (freshWith place ts cs s notes).term v
   unfolding freshWith fresh
   with-met {q} place ts cs s notes h l v f xs st ex k =
@@ -181,7 +180,7 @@ module _ (R : List Rule) (P : Program) (S : Dropped) (N : ℕ) where
 
   -- a term that was worked out, or else the next quantity
   or-met : {q : Assignment} {Γ : Scope} {E : Frame} (place : ℕ) (t : Option Term) (v : ℤ) (s : Stand) (notes : List Note) → Here q Γ s.next s.facts E
-      → ((u : Term) → t ≡ Some u → worth q u ≡ v) → All (Fine P.low P.high S) (orFresh place t s notes).notes → InRange v
+      → ((u : Term) → t ≡ Some u → worth q u ≡ v) → AllByRecursion (Fine P.low P.high S) (orFresh place t s notes).notes → InRange v
       → Met q s.next (orFresh place t s notes).stand.facts (orFresh place t s notes).term v
   unfolding orFresh fresh
   or-met place None v s notes h e f i = fresh-met h (fresh-room P.low P.high S place s notes f) v i
@@ -189,8 +188,8 @@ module _ (R : List Rule) (P : Program) (S : Dropped) (N : ℕ) where
 
   -- what is checked besides keeps its conditions
   finished : (μ : Mode) (L : List ℤ) (place : ℕ) (f : Found) (q : Assignment) (n : ℕ) (m m' : Run ℤ) → ModeAt μ n q L
-      → All (Fine P.low P.high S) (finish μ place f).notes
-      → (All (Fine P.low P.high S) f.notes → Same S N (Good R S) (Met q n f.stand.facts f.term) m m')
+      → AllByRecursion (Fine P.low P.high S) (finish μ place f).notes
+      → (AllByRecursion (Fine P.low P.high S) f.notes → Same S N (Good R S) (Met q n f.stand.facts f.term) m m')
       → Same S N (Good R S) (Post μ L q n (finish μ place f).stand.facts (finish μ place f).term) m m'
   unfolding finish
   finished infer L place f q n m m' md o k = k o
@@ -205,7 +204,7 @@ module _ (R : List Rule) (P : Program) (S : Dropped) (N : ℕ) where
 
   -- after an if
   joined : (μ : Mode) (L : List ℤ) (place : ℕ) (s : Stand) (notes : List Note) {q : Assignment} {Γ : Scope} {E : Frame} (F : List Row) (t : Term) (v : ℤ) → Here q Γ s.next s.facts E
-      → All (Fine P.low P.high S) (join μ place s notes).notes → Post μ L q s.next F t v → Post μ L q s.next (join μ place s notes).stand.facts (join μ place s notes).term v
+      → AllByRecursion (Fine P.low P.high S) (join μ place s notes).notes → Post μ L q s.next F t v → Post μ L q s.next (join μ place s notes).stand.facts (join μ place s notes).term v
   unfolding join fresh
   joined infer L place s notes F t v h o p = fresh-met h (fresh-room P.low P.high S place s notes o) v p.fits
   joined (check ts cs) L place s notes F t v h o p = p
@@ -216,7 +215,7 @@ module _ (R : List Rule) (P : Program) (S : Dropped) (N : ℕ) where
     pub range : Within P.low P.high asg
     pub facts : MeetsAll asg F
     pub are : map (worth asg) ts ≡ xs
-    pub fits : All InRange xs
+    pub fits : AllByRecursion InRange xs
     pub count : length xs ≡ length ps
     pub lengths : atLists ps xs ≡ map length_of parts
 
@@ -225,25 +224,25 @@ module _ (R : List Rule) (P : Program) (S : Dropped) (N : ℕ) where
     pub exists : T (ltb f (length R))
     pub count : length xs ≡ length (ruleAt R f).params
     pub lengths : atLists (ruleAt R f).params xs ≡ map length_of ps
-    pub fits : All InRange xs
+    pub fits : AllByRecursion InRange xs
     pub parts : (j : ℕ) → PartOk (part_at ps j)
-    pub needs : All (λ c. T (satisfied xs (pos 0) c)) (ruleAt R f).needs
+    pub needs : AllByRecursion (λ c. T (satisfied xs (pos 0) c)) (ruleAt R f).needs
 
   -- what a rule gives
   abbrev pub Gives : ℕ → List ℤ → ℤ → Type 0
-  Gives f xs v = InRange v × All (λ c. T (satisfied xs v c)) (ruleAt R f).gives
+  Gives f xs v = InRange v × AllByRecursion (λ c. T (satisfied xs v c)) (ruleAt R f).gives
 
   -- the body of a rule is what the walk made of it, and it owes nothing that is not fine
   pub record BodyOk (f : ℕ) : Type 0 where
     pub count : ℕ
     pub body : get_or P.bodies f noExpr ≡ (walkBody R count (ruleAt R f)).tree
-    pub start : All (Fine P.low P.high S) (startKnown (ruleAt R f)).notes
-    pub notes : All (Fine P.low P.high S) (walkBody R count (ruleAt R f)).notes
+    pub start : AllByRecursion (Fine P.low P.high S) (startKnown (ruleAt R f)).notes
+    pub notes : AllByRecursion (Fine P.low P.high S) (walkBody R count (ruleAt R f)).notes
 
   -- two ways to run expressions come to the same, for every expression that the walk takes
   pub record Evals (ev ev' : Eval) : Type 0 where
     pub at : (e : Expr) (μ : Mode) (L : List ℤ) (Γ : Scope) (s : Stand) (E : Frame) (q : Assignment) → ModeAt μ s.next q L → Here q Γ s.next s.facts E
-        → All (Fine P.low P.high S) (walk R μ Γ s e).notes
+        → AllByRecursion (Fine P.low P.high S) (walk R μ Γ s e).notes
         → Same S N (Good R S) (Post μ L q s.next (walk R μ Γ s e).stand.facts (walk R μ Γ s e).term) (ev E (walk R μ Γ s e).tree) (ev' E (walk R μ Γ s e).tree)
 
   module _ (zeroFits : InRange (pos 0)) (bodies : (f : ℕ) → T (ltb f (length R)) → BodyOk f) (ev ev' : Eval) (ih : Evals ev ev') where
@@ -255,7 +254,7 @@ module _ (R : List Rule) (P : Program) (S : Dropped) (N : ℕ) where
     walked {Γ = Γ} s μ e h = walk-ok R μ Γ s e h.scope h.firm
 
     -- where a rule's body begins
-    here-start : (f : ℕ) (xs : List ℤ) (ps : List Part) → Inputs f xs ps → All (Fine P.low P.high S) (startKnown (ruleAt R f)).notes
+    here-start : (f : ℕ) (xs : List ℤ) (ps : List Part) → Inputs f xs ps → AllByRecursion (Fine P.low P.high S) (startKnown (ruleAt R f)).notes
         → Here (valued xs) (startScope (ruleAt R f)) (length (ruleAt R f).params) (startKnown (ruleAt R f)).facts (record { values = xs; parts = ps })
     unfolding startKnown
     here-start f xs ps i o =
@@ -288,7 +287,7 @@ module _ (R : List Rule) (P : Program) (S : Dropped) (N : ℕ) where
         (ih.at r.body (check (start_names r) r.gives) xs (startScope r) (startStand r b.count) (record { values = xs; parts = ps }) (valued xs) (h.scope.names, h.names) h b.notes))
         (λ v p. then (same-emit S N (Good R S) (returned f xs v) (returned f xs v) refl p.1) (λ _ _. same-give S N (Good R S) _ v p)))
 
-    values-sound : (es : Args) {Γ : Scope} {E : Frame} {q : Assignment} (s : Stand) → Here q Γ s.next s.facts E → All (Fine P.low P.high S) (walks R Γ s es).notes
+    values-sound : (es : Args) {Γ : Scope} {E : Frame} {q : Assignment} (s : Stand) → Here q Γ s.next s.facts E → AllByRecursion (Fine P.low P.high S) (walks R Γ s es).notes
         → Same S N (Good R S) (Mets q s.next (walks R Γ s es).stand.facts (walks R Γ s es).terms (shape es) (map (part_at E.parts) (lent_of (walks R Γ s es).tree))) (values ev E (walks R Γ s es).tree) (values ev' E (walks R Γ s es).tree)
     unfolding walks values shape lent_of atLists
     values-sound end {q = q} s h o = same-give S N (Good R S) _ [] (record { asg = q; agree = λ i k. refl; range = h.range; facts = h.facts; are = refl; fits = tt; count = refl; lengths = refl })
@@ -334,11 +333,11 @@ module _ (R : List Rule) (P : Program) (S : Dropped) (N : ℕ) where
         let above = λ (z : T (S (suc k))). subst₂ (λ (y : ℤ) (l : ℤ). T (lt_z y l)) e (here-length h site.list) (p.above z) in
         same-touch S N (Good R S) (numbered site k) (part_at E.parts site.list) x (h.parts site.list).inside (refl, below) below (refl, above) above
 
-    here-facts : {q : Assignment} {Γ : Scope} {n : ℕ} {F : List Row} {E : Frame} → Here q Γ n F E → (G : List Row) → All (Firm n) G → MeetsAll q G → Here q Γ n G E
+    here-facts : {q : Assignment} {Γ : Scope} {n : ℕ} {F : List Row} {E : Frame} → Here q Γ n F E → (G : List Row) → AllByRecursion (Firm n) G → MeetsAll q G → Here q Γ n G E
     here-facts {q} {n = n} h G s f = here_on h q n G (λ i k. refl) (le_refl n) h.range s f
 
     node-sound : (e : Expr) (μ : Mode) (L : List ℤ) {Γ : Scope} (s : Stand) {E : Frame} {q : Assignment} → ModeAt μ s.next q L → Here q Γ s.next s.facts E
-        → All (Fine P.low P.high S) (walk R μ Γ s e).notes
+        → AllByRecursion (Fine P.low P.high S) (walk R μ Γ s e).notes
         → Same S N (Good R S) (Post μ L q s.next (walk R μ Γ s e).stand.facts (walk R μ Γ s e).term) (node P S ev E (walk R μ Γ s e).tree) (node P full ev' E (walk R μ Γ s e).tree)
     unfolding walk node fresh
     node-sound (num p n) μ L s {q = q} md h o =

@@ -1,6 +1,6 @@
 -- Ready's answer, and that the notes of a sheet that was taken are fine once it is yes.
 use Rattle.std.proofs.Common.{◌≡◌, ℕ, zero, suc, ◌+◌, ◌<◌, Bool, true, false, cond, not, ◌&&◌, T, ltb, List, [], ◌∷◌, ◌++◌, length, get_or, ℤ, Some, None, Option, sym, refl, ap, ◌∙◌, subst, add-zero, add-suc, suc-add, zero-add, arith}
-use Rattle.std.specs.List.{AllByRecursion as All, slice_get}
+use Rattle.std.specs.List.{AllByRecursion, slice_get}
 use Rattle.std.proofs.lemmas.Bool.{true≢false, false≢true}
 use Rattle.rows.specs.Meaning.{Follows}
 use Rattle.language.specs.declared.refusal.Refusal.{Refusal}
@@ -110,7 +110,7 @@ answers sheet list S same = go (firstOpen 0 sheet.obligations S) (closes S 0 she
 -- notes without a fault, whose obligations are fine one by one
 pub fine-notes : (low high : ℤ) (S : Dropped) (k m : ℕ) (ns : List Note) → Counts k ns m → firstFault ns ≡ None
     → ((i : ℕ) (o : Obligation) → slice_get (obligationsOf ns) i ≡ Some o → (T (isGuard o.duty) → T (S (i + k))) × (T (S (i + k)) → Follows low high o.facts o.goal))
-    → All (Fine low high S) ns
+    → AllByRecursion (Fine low high S) ns
 unfolding firstFault obligationsOf
 fine-notes low high S k m [] c e f = tt
 fine-notes low high S k m (fault r ∷ ns) c e f = absurd (none-some r (sym e))
@@ -126,10 +126,10 @@ fine-notes low high S k m (owes o work ∷ ns) c e f =
 pub record Body (low high : ℤ) (S : Dropped) (R : List Rule) (r : Rule) (e : Expr) : Type 0 where
   pub count : ℕ
   pub body : e ≡ (walkBody R count r).tree
-  pub start : All (Fine low high S) (startKnown r).notes
-  pub notes : All (Fine low high S) (walkBody R count r).notes
+  pub start : AllByRecursion (Fine low high S) (startKnown r).notes
+  pub notes : AllByRecursion (Fine low high S) (walkBody R count r).notes
 
-pub bodies : (low high : ℤ) (S : Dropped) (R : List Rule) (k : ℕ) (rs : List Rule) → All (Fine low high S) (walkRules R k rs).notes → (f : ℕ) → f < length rs
+pub bodies : (low high : ℤ) (S : Dropped) (R : List Rule) (k : ℕ) (rs : List Rule) → AllByRecursion (Fine low high S) (walkRules R k rs).notes → (f : ℕ) → f < length rs
     → Body low high S R (ruleAt rs f) (get_or (walkRules R k rs).bodies f noExpr)
 unfolding walkRules
 bodies low high S R k [] h f l = let no : ⊥ = omega arith in absurd no

@@ -1,7 +1,7 @@
 -- The run alone: a book's run and its full run from one state, which come to the same and differ in the checks made alone.
 use Rattle.std.proofs.Common.{◌≡◌, ℕ, zero, suc, ◌+◌, ◌<◌, ◌≤◌, Bool, true, false, cond, not, ◌||◌, T, List, [], ◌∷◌, ◌++◌, map, length, ℤ, pos, negsuc, Some, None, sym, refl, ap, ◌∙◌, subst, ap₂, arith, ltb→lt}
 use lib.Signed.{le_z, lt_z}
-use Rattle.std.specs.List.{AllByRecursion as All}
+use Rattle.std.specs.List.{AllByRecursion}
 use Rattle.std.proofs.ByRecursion.{All-append}
 use Rattle.std.proofs.lemmas.List.{map-append, length-set}
 use Rattle.std.proofs.lemmas.Bool.{lt-ltb}
@@ -34,7 +34,7 @@ module _ (S : Dropped) (N : ℕ) (G : Event → Type 0) where
   pub record Both {A : Type 0} (P : A → Type 0) (o p : Ran A) : Type 0 where
     pub same : o.outcome ≡ p.outcome
     pub log : o.log ≡ map (asBook S) p.log
-    pub good : All G p.log
+    pub good : AllByRecursion G p.log
     pub post : Ends N P p.outcome
 
   pub record Same {A : Type 0} (P : A → Type 0) (m n : Run A) : Type 0 where
@@ -83,7 +83,7 @@ module _ (S : Dropped) (N : ℕ) (G : Event → Type 0) where
         | wild ↦ record { log = o.log; outcome = wild }
       ]
 
-      at-end : (d c : List Event) (e : Outcome A) → d ≡ map (asBook S) c → All G c → Ends N P e → Both Q (on (record { log = d; outcome = e }) k) (on (record { log = c; outcome = e }) l)
+      at-end : (d c : List Event) (e : Outcome A) → d ≡ map (asBook S) c → AllByRecursion G c → Ends N P e → Both Q (on (record { log = d; outcome = e }) k) (on (record { log = c; outcome = e }) l)
       at-end d c (done a t) e g h =
           let r = (f a h.0).from t h.1 in
           record { same = r.same; log = ap₂ ◌++◌ e r.log ∙ sym (map-append (asBook S) c (l a t).log); good = All-append G c (l a t).log g r.good; post = r.post }

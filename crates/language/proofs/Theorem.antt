@@ -1,7 +1,7 @@
 -- The promise, put together: a sheet that is taken, a history, and the runs of its book.
 use Rattle.std.proofs.Common.{◌≡◌, ℕ, ◌&&◌, T, ltb, List, [], length, get_or, ℤ, pos, ◌≤ℤ◌, Some, None, Ok, Option, sym, refl, ap, ◌∙◌, subst, ⊎_elim, add-zero, arith, ltb→lt}
 use lib.Signed.{le_z, le_z_yes}
-use Rattle.std.specs.List.{AllByRecursion as All, slice_get}
+use Rattle.std.specs.List.{AllByRecursion, slice_get}
 use Rattle.rows.specs.Meaning.{Follows}
 use Rattle.language.specs.declared.part.Part.{Part}
 use Rattle.language.specs.declared.refusal.Refusal.{Refusal}
@@ -45,7 +45,7 @@ proper low high rules = go (refusalOf low high rules) refl
 
 module _ (sheet : Sheet) (p : Proper sheet) (history : List Step) (S : Dropped) (list : List ℕ) (same : (n : ℕ) → S n ≡ on list n)
     (had : (n : ℕ) → T (on list n) → HadGood sheet n history) (closed : firstOpen 0 sheet.obligations S ≡ None) where
-  fine : All (Fine sheet.low sheet.high S) (walkRules sheet.rules 0 sheet.rules).notes
+  fine : AllByRecursion (Fine sheet.low sheet.high S) (walkRules sheet.rules 0 sheet.rules).notes
   fine =
       let w = rules-numbered sheet.rules 0 sheet.rules in
       fine-notes sheet.low sheet.high S 0 w.0 (walkRules sheet.rules 0 sheet.rules).notes w.1.counts p.no-fault

@@ -1,6 +1,6 @@
 -- The walk alone: what it has at some point mentions only quantities below the next, and its obligations are numbered one by one.
 use Rattle.std.proofs.Common.{◌≡◌, ℕ, suc, ◌≤◌, Bool, true, false, T, ltb, leb, List, [], ◌∷◌, ◌++◌, map, length, ℤ, pos, Some, None, Option, sym, refl, subst, le_trans, le_refl, arith}
-use Rattle.std.specs.List.{AllByRecursion as All}
+use Rattle.std.specs.List.{AllByRecursion}
 use Rattle.std.proofs.ByRecursion.{All-push, All-weaker}
 use Rattle.rows.specs.declared.row.Row.{Row}
 use Rattle.rows.specs.Meaning.{Assignment, Meets, MeetsAll}
@@ -21,34 +21,34 @@ pub meets-push : (q : Assignment) (F : List Row) (r : Row) → MeetsAll q F → 
 meets-push q [] r h k = (k, tt)
 meets-push q (x ∷ F) r h k = (h.0, meets-push q F r h.1 k)
 
-pub facts-move : (n : ℕ) (q p : Assignment) → Agree n q p → (F : List Row) → All (Firm n) F → MeetsAll q F → MeetsAll p F
+pub facts-move : (n : ℕ) (q p : Assignment) → Agree n q p → (F : List Row) → AllByRecursion (Firm n) F → MeetsAll q F → MeetsAll p F
 facts-move n q p a [] k h = tt
 facts-move n q p a (r ∷ F) k h = (k.0 q p a h.0, facts-move n q p a F k.1 h.1)
 
-pub firms-more : (n m : ℕ) → n ≤ m → (F : List Row) → All (Firm n) F → All (Firm m) F
+pub firms-more : (n m : ℕ) → n ≤ m → (F : List Row) → AllByRecursion (Firm n) F → AllByRecursion (Firm m) F
 firms-more n m h F k = All-weaker (Firm n) (Firm m) (λ r f q p a. f q p (agree_less h a)) F k
 
-pub assume-meets : (q : Assignment) (place : ℕ) (F : List Row) (rs : List (Option Row)) → MeetsAll q F → All (IfMade q) rs → MeetsAll q (assume place F rs).facts
+pub assume-meets : (q : Assignment) (place : ℕ) (F : List Row) (rs : List (Option Row)) → MeetsAll q F → AllByRecursion (IfMade q) rs → MeetsAll q (assume place F rs).facts
 unfolding assume
 assume-meets q place F [] h k = h
 assume-meets q place F (None ∷ rs) h k = assume-meets q place F rs h k.1
 assume-meets q place F (Some r ∷ rs) h k = assume-meets q place (F ++ r ∷ []) rs (meets-push q F r h (k.0 r refl)) k.1
 
-pub assume-firm : (n : ℕ) (place : ℕ) (F : List Row) (rs : List (Option Row)) → All (Firm n) F → All (IfFirm n) rs → All (Firm n) (assume place F rs).facts
+pub assume-firm : (n : ℕ) (place : ℕ) (F : List Row) (rs : List (Option Row)) → AllByRecursion (Firm n) F → AllByRecursion (IfFirm n) rs → AllByRecursion (Firm n) (assume place F rs).facts
 unfolding assume
 assume-firm n place F [] h k = h
 assume-firm n place F (None ∷ rs) h k = assume-firm n place F rs h k.1
 assume-firm n place F (Some r ∷ rs) h k = assume-firm n place (F ++ r ∷ []) rs (All-push (Firm n) F r h (k.0 r refl)) k.1
 
 pub assumeAll-meets : (q : Assignment) (at : Condition → ℕ) (ts : List Term) (r : Term) (xs : List ℤ) (v : ℤ) → map (worth q) ts ≡ xs → worth q r ≡ v
-    → (F : List Row) (cs : List Condition) → MeetsAll q F → All (λ c. T (satisfied xs v c)) cs → MeetsAll q (assumeAll at ts r F cs).facts
+    → (F : List Row) (cs : List Condition) → MeetsAll q F → AllByRecursion (λ c. T (satisfied xs v c)) cs → MeetsAll q (assumeAll at ts r F cs).facts
 unfolding assumeAll
 assumeAll-meets q at ts r xs v ex ev F [] h k = h
 assumeAll-meets q at ts r xs v ex ev F (c ∷ cs) h k =
     assumeAll-meets q at ts r xs v ex ev (assume (at c) F (conditionRows ts r c)).facts cs (assume-meets q (at c) F (conditionRows ts r c) h (condition-from q ts r xs v ex ev c k.0)) k.1
 
 pub assumeAll-firm : (n : ℕ) (at : Condition → ℕ) (ts : List Term) (r : Term) → StableAll n ts → Stable n r
-    → (F : List Row) (cs : List Condition) → All (Firm n) F → All (Firm n) (assumeAll at ts r F cs).facts
+    → (F : List Row) (cs : List Condition) → AllByRecursion (Firm n) F → AllByRecursion (Firm n) (assumeAll at ts r F cs).facts
 unfolding assumeAll
 assumeAll-firm n at ts r a b F [] h = h
 assumeAll-firm n at ts r a b F (c ∷ cs) h =
@@ -112,7 +112,7 @@ numbered-assumeAll k at ts r F (c ∷ cs) =
 -- what is so of a walk from the next quantity n and the number k on
 pub record OkStand (n : ℕ) (s : Stand) : Type 0 where
   pub up : n ≤ s.next
-  pub facts : All (Firm s.next) s.facts
+  pub facts : AllByRecursion (Firm s.next) s.facts
 
 pub record Ok (n k : ℕ) (g : Found) : Type 0 where
   pub stand : OkStand n g.stand
@@ -180,13 +180,13 @@ ok-finish n k (check ts cs) place g h = record {
 pub from : (n : ℕ) (s t : Stand) → OkStand n s → OkStand s.next t → OkStand n t
 from n s t h k = record { up = le_trans h.up k.up; facts = k.facts }
 
-pub here : (s : Stand) → All (Firm s.next) s.facts → OkStand s.next s
+pub here : (s : Stand) → AllByRecursion (Firm s.next) s.facts → OkStand s.next s
 here s f = record { up = le_refl s.next; facts = f }
 
 mutual
   unfolding walk
 
-  pub walk-ok : (R : List Rule) (m : Mode) (Γ : Scope) (s : Stand) (e : Expr) → OkScope s.next Γ → All (Firm s.next) s.facts → Ok s.next s.count (found (walk R m Γ s e))
+  pub walk-ok : (R : List Rule) (m : Mode) (Γ : Scope) (s : Stand) (e : Expr) → OkScope s.next Γ → AllByRecursion (Firm s.next) s.facts → Ok s.next s.count (found (walk R m Γ s e))
   walk-ok R m Γ s (num p n) c f =
       ok-finish s.next s.count m p _ (ok-orFresh s.next s.count p s [] (here s f) (numbered-nil s.count) (limited (constant (pos n))) (λ u e. subst (Stable s.next) (limited-is (constant (pos n)) u e) (stable-constant s.next (pos n))))
   walk-ok R m Γ s (name p i) c f = ok-finish s.next s.count m p _ (record { stand = here s f; term = c.names i; numbered = numbered-nil s.count })
@@ -263,7 +263,7 @@ mutual
       let gk = walk-ok R (check Γ.names cs) Γ s e c f in
       ok-finish s.next s.count m p _ (ok-freshWith s.next s.count p (counted s g.stand.count) g.notes (record { up = le_refl s.next; facts = f }) gk.numbered Γ.names cs c.names)
 
-  pub walks-ok : (R : List Rule) (Γ : Scope) (s : Stand) (es : Args) → OkScope s.next Γ → All (Firm s.next) s.facts → Oks s.next s.count (walks R Γ s es)
+  pub walks-ok : (R : List Rule) (Γ : Scope) (s : Stand) (es : Args) → OkScope s.next Γ → AllByRecursion (Firm s.next) s.facts → Oks s.next s.count (walks R Γ s es)
   walks-ok R Γ s end c f = record { stand = here s f; terms = stables-nil s.next; numbered = numbered-nil s.count }
   walks-ok R Γ s (value e es) c f =
       let g = walk R infer Γ s e in
@@ -287,7 +287,7 @@ start-scope r =
     let stable = quantities-stable k 0 k (omega arith) in
     record { names = stable; lengths = atLists-stable k r.params (start_names r) stable }
 
-pub start-firm : (r : Rule) → All (Firm (length r.params)) (startKnown r).facts
+pub start-firm : (r : Rule) → AllByRecursion (Firm (length r.params)) (startKnown r).facts
 unfolding startKnown
 start-firm r =
     let k = length r.params in

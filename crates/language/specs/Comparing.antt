@@ -1,6 +1,6 @@
 -- Comparisons as rows, the rows of their negations, and conditions: what they say of numbers, and which rows they come to.
 use Rattle.std.specs.Prelude.{◌≡◌, Bool, true, cond, ◌&&◌, List, [], ◌∷◌, ℤ, pos, ◌+ℤ◌, ◌-ℤ◌, ◌*ℤ◌, is_some, None, Option, slice_index_or}
-use Rattle.std.specs.List.{flat_map, AllByRecursion as All}
+use Rattle.std.specs.List.{flat_map, AllByRecursion}
 use Rattle.rows.specs.declared.row.Row.{Row}
 use Rattle.rows.specs.declared.row.Kind.TheVariants.{AtMost, Unequal}
 use Rattle.rows.specs.Rows.{row_of}
@@ -34,7 +34,7 @@ otherwise Equal t u = rows NotEqual t u
 otherwise NotEqual t u = rows Equal t u
 
 pub record RowsFit : Type 0 where
-  pub made : (c : Comparison) (t u : Term) → fitsTerm t ≡ true → fitsTerm u ≡ true → All (λ o. is_some o ≡ true) (rows c t u)
+  pub made : (c : Comparison) (t u : Term) → fitsTerm t ≡ true → fitsTerm u ≡ true → AllByRecursion (λ o. is_some o ≡ true) (rows c t u)
 
 -- what a side is worth, where names have these values and the result is r
 abbrev pub atomValue : List ℤ → ℤ → Atom → ℤ

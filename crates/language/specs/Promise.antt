@@ -1,6 +1,6 @@
 -- The soundness promise, undivided: for every sheet, range and history, what is settled, when a book is open, and what then holds of every run.
 use Rattle.std.specs.Prelude.{◌≡◌, ℕ, ◌<◌, true, not, T, ◌⊎◌, ◌↔◌, List, [], ◌∷◌, length, ℤ, pos, Some, Ok, Err, filter, Result}
-use Rattle.std.specs.List.{slice_get, AllByRecursion as All}
+use Rattle.std.specs.List.{slice_get, AllByRecursion}
 use Rattle.domains.specs.Faults.{Good}
 use Rattle.language.specs.declared.part.Part.{Part}
 use Rattle.language.specs.declared.refusal.Refusal.{Refusal}
@@ -44,8 +44,8 @@ Answers sheet list (Err r) =
 -- in a full run: a check that is come to is made, and passes if it is on the list, a call meets its rule's needs, a returned value meets its rule's gives
 abbrev pub Sound : Sheet → List ℕ → Event → Type 0
 Sound sheet list (came n made passes) = (made ≡ true) × (T (on list n) → T passes)
-Sound sheet list (called f xs) = All (λ c. T (satisfied xs (pos 0) c)) (ruleAt sheet.rules f).needs
-Sound sheet list (returned f xs v) = All (λ c. T (satisfied xs v c)) (ruleAt sheet.rules f).gives
+Sound sheet list (called f xs) = AllByRecursion (λ c. T (satisfied xs (pos 0) c)) (ruleAt sheet.rules f).needs
+Sound sheet list (returned f xs v) = AllByRecursion (λ c. T (satisfied xs v c)) (ruleAt sheet.rules f).gives
 
 -- in a book's run: a check is dropped exactly when it is on the list
 abbrev pub DropsListed : List ℕ → Event → Type 0
@@ -70,7 +70,7 @@ Agrees sheet list (refused r) (refused q) = r ≡ q
 Agrees sheet list (refused r) (ended e cells log) = ⊥
 Agrees sheet list (refused r) astray = ⊥
 Agrees sheet list (ended e cells log) (refused q) = ⊥
-Agrees sheet list (ended e cells log) (ended e' cells' log') = SameEnd list e e' cells cells' log log' × All (Sound sheet list) log' × All (DropsListed list) log
+Agrees sheet list (ended e cells log) (ended e' cells' log') = SameEnd list e e' cells cells' log log' × AllByRecursion (Sound sheet list) log' × AllByRecursion (DropsListed list) log
 Agrees sheet list (ended e cells log) astray = ⊥
 Agrees sheet list astray (refused q) = ⊥
 Agrees sheet list astray (ended e cells log) = ⊥

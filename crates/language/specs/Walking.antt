@@ -1,7 +1,7 @@
 -- The walk: which term an expression has, what a sheet owes, and the first limit that it meets.
 -- A limit that is met is noted, and the walk goes on as if there were none.
 use Rattle.std.specs.Prelude.{◌≡◌, ℕ, suc, Bool, true, false, cond, ◌&&◌, List, [], ◌∷◌, ◌++◌, map, length, pos, Some, None, Option, nat_le, nat_lt}
-use Rattle.std.specs.List.{range_with_len, AllByRecursion as All}
+use Rattle.std.specs.List.{range_with_len, AllByRecursion}
 use Rattle.rows.specs.declared.row.Row.{Row}
 use Rattle.language.specs.declared.term.Term.{Term}
 use Rattle.language.specs.declared.owed.Duty.{Duty}
@@ -225,7 +225,7 @@ unfoldable mutual
 -- every term that the walk has lies within its limits
 pub record TermsFit : Type 0 where
   pub kept : (R : List Rule) (m : Mode) (Γ : Scope) (s : Stand) (e : Expr)
-      → All (λ t. fitsTerm t ≡ true) Γ.names → All (λ t. fitsTerm t ≡ true) Γ.lengths → fitsTerm (walk R m Γ s e).term ≡ true
+      → AllByRecursion (λ t. fitsTerm t ≡ true) Γ.names → AllByRecursion (λ t. fitsTerm t ≡ true) Γ.lengths → fitsTerm (walk R m Γ s e).term ≡ true
 
 -- where a rule's body begins: numbers and lengths are the first quantities, each length is at least 0, and the needs hold
 abbrev pub start_names : Rule → List Term

@@ -1,4 +1,6 @@
 // The language of sheets: its vocabulary, what a sheet owes, how it runs, and the promise that joins the two.
+#![tactic(auto)]
+
 pub mod ending;
 pub mod limits;
 pub mod owed;

@@ -4,7 +4,7 @@ use Rattle.std.proofs.ByRecursion.{All-take, All-weaker}
 use Rattle.std.proofs.lemmas.List.{length-drop, length-take-le, take-append-drop, take-append-le}
 use Rattle.std.proofs.lemmas.Bool.{cases_lt, ltb-true, ltb-false}
 use Rattle.std.proofs.lemmas.Bool.Decides.{nat_tests}
-use Rattle.std.specs.List.{AllByRecursion as All}
+use Rattle.std.specs.List.{AllByRecursion}
 use Rattle.letters.specs.declared.token.Token.{Token}
 use Rattle.letters.specs.declared.misspelt.Misspelt.{Misspelt}
 use Rattle.letters.specs.declared.misspelt.Misspelt.TheVariants.{Length, Letter, Brackets}
@@ -20,7 +20,7 @@ use Rattle.letters.proofs.Telling.{blank-first, open-err}
 
 -- bytes that are no brackets
 Plain : List ℕ → Type 0
-Plain v = All (λ b. (isOpening b ≡ false) × (isClosing b ≡ false)) v
+Plain v = AllByRecursion (λ b. (isOpening b ≡ false) × (isClosing b ≡ false)) v
 
 plain-nil : Plain []
 unfolding Plain

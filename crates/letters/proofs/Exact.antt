@@ -5,7 +5,7 @@ use Rattle.std.proofs.lemmas.List.{get_or_append_left, take_at}
 use Rattle.std.proofs.lemmas.Bool.{le-leb}
 use Rattle.std.proofs.lemmas.Bool.Decides.{nat_tests}
 use Rattle.std.specs.Str.Parse.{digits_value}
-use Rattle.std.specs.List.{AllByRecursion as All}
+use Rattle.std.specs.List.{AllByRecursion}
 use Rattle.letters.specs.declared.kind.Kind.{Kind}
 use Rattle.letters.specs.declared.kind.Kind.TheVariants.{Name, Numeral}
 use Rattle.letters.specs.declared.token.Token.{Token}
@@ -20,7 +20,7 @@ use Rattle.letters.proofs.Running.{run-exact}
 use Rattle.letters.proofs.Sorts.{Sort, bare, keyword, lone, pair, sort-of}
 
 -- what holds of a token's bytes holds of the first byte there
-first_of : (P : ℕ → Type 0) (w after : List ℕ) → 0 < length w → All P w → P (get_or (w ++ after) 0 0)
+first_of : (P : ℕ → Type 0) (w after : List ℕ) → 0 < length w → AllByRecursion P w → P (get_or (w ++ after) 0 0)
 first_of P w after h a = subst P (sym (get_or_append_left w after 0 0 h)) (All-get_or P w 0 0 h a)
 
 letter-leads : (b : ℕ) → isLetter b ≡ true → leadOf b ≡ Word

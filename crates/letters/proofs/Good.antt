@@ -6,7 +6,7 @@ use Rattle.std.proofs.lemmas.List.Sums.{prefix_len-le-length}
 use Rattle.std.proofs.lemmas.Bool.{leb-true, both_ways, eqb-true, eq-eqb, cases_lt}
 use Rattle.std.proofs.lemmas.Bool.Decides.{nat_tests}
 use Rattle.std.specs.Str.Parse.{digits_value}
-use Rattle.std.specs.List.{prefix_len, AllByRecursion as All}
+use Rattle.std.specs.List.{prefix_len, AllByRecursion}
 use Rattle.letters.specs.declared.kind.Kind.{Kind}
 use Rattle.letters.specs.declared.kind.Kind.TheVariants.{Name, Numeral}
 use Rattle.letters.specs.declared.token.Token.{Token}
@@ -51,12 +51,12 @@ module _ (w : List ℕ) (b : ℕ) (some : 0 < length w) (nl : EachLetter w → i
 
 module _ (i : ℕ) (bs : List ℕ) (full : 0 < length bs) where
   -- what holds of all bytes of a token holds of its first
-  first-kept : (n : ℕ) → 0 < n → n ≤ length bs → (P : ℕ → Type 0) → All P (take n bs) → P (get_or bs 0 0)
+  first-kept : (n : ℕ) → 0 < n → n ≤ length bs → (P : ℕ → Type 0) → AllByRecursion P (take n bs) → P (get_or bs 0 0)
   first-kept n h l P a = subst P (get_or-take n bs 0 0 h) (All-get_or P (take n bs) 0 0 (let e = length-take-le n bs l in omega arith) a)
 
   -- the only byte of a token of one byte
   only_kept : (n : ℕ) → 0 < n → n ≤ length bs → (c : ℕ) → take n bs ≡ c ∷ [] → get_or bs 0 0 ≡ c
-  only_kept n h l c e = first-kept n h l (λ y. y ≡ c) (subst (All (λ y. y ≡ c)) (sym e) (refl, tt))
+  only_kept n h l c e = first-kept n h l (λ y. y ≡ c) (subst (AllByRecursion (λ y. y ≡ c)) (sym e) (refl, tt))
 
   word-longest : isLetter (get_or bs 0 0) ≡ true → Longest (take (prefix_len isLetter bs) bs) (drop (prefix_len isLetter bs) bs)
   word-longest f b more e =

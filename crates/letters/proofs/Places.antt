@@ -1,7 +1,7 @@
 -- What a reading says of each token.
 use Rattle.std.proofs.Common.{◌≡◌, ℕ, suc, ◌+◌, ◌<◌, ◌≤◌, List, [], ◌∷◌, ◌++◌, length, take, sym, ap, ◌∙◌, subst, arith}
 use Rattle.std.proofs.lemmas.List.{append_assoc, drop_at, take_at, length-append, length_push}
-use Rattle.std.specs.List.{AllByRecursion as All}
+use Rattle.std.specs.List.{AllByRecursion}
 use Rattle.letters.specs.declared.token.Token.{Token}
 use Rattle.letters.specs.Spelling.{Spelt, name, numeral, fixed, Reads, end, blank, token}
 use Rattle.letters.specs.Standing.{Stands, Ascending}
@@ -27,15 +27,15 @@ module _ (pre w bs : List ℕ) (t : Token) where
       let e : bytes_of (pre ++ (w ++ bs)) t ≡ w = ap (take t.size) (drop_at pre (w ++ bs) t.place p) ∙ take_at w bs t.size (sym s) in
       (omega arith, subst (Spelt t) (sym e) spelt)
 
-stand : {i : ℕ} {bs left : List ℕ} {ts : List Token} → Reads i bs ts left → (pre : List ℕ) → length pre ≡ i → All (Stands (pre ++ bs)) ts
+stand : {i : ℕ} {bs left : List ℕ} {ts : List Token} → Reads i bs ts left → (pre : List ℕ) → length pre ≡ i → AllByRecursion (Stands (pre ++ bs)) ts
 stand (end {i} {left}) pre e = tt
 stand (blank {i} {b} {bs} {left} {ts} q r) pre e =
-    subst (λ (l : List ℕ). All (Stands l) ts) (append_assoc pre (b ∷ []) bs) (stand r (pre ++ b ∷ []) (let l = length_push pre b in omega arith))
+    subst (λ (l : List ℕ). AllByRecursion (Stands l) ts) (append_assoc pre (b ∷ []) bs) (stand r (pre ++ b ∷ []) (let l = length_push pre b in omega arith))
 stand (token {i} {w} {bs} {left} {t} {ts} place size some spelt far r) pre e =
-    (here pre w bs t (omega arith) size spelt, subst (λ (l : List ℕ). All (Stands l) ts) (append_assoc pre w bs) (stand r (pre ++ w) (let l = length-append pre w in omega arith)))
+    (here pre w bs t (omega arith) size spelt, subst (λ (l : List ℕ). AllByRecursion (Stands l) ts) (append_assoc pre w bs) (stand r (pre ++ w) (let l = length-append pre w in omega arith)))
 
 -- each token lies in the text and is spelt at its place
-pub reads-stand : {bs left : List ℕ} {ts : List Token} → Reads 0 bs ts left → All (Stands bs) ts
+pub reads-stand : {bs left : List ℕ} {ts : List Token} → Reads 0 bs ts left → AllByRecursion (Stands bs) ts
 reads-stand r = stand r [] (omega arith)
 
 pub spelt-small : (t : Token) (w : List ℕ) → Spelt t w → t.value < 1000000

@@ -10,16 +10,16 @@ use Rattle.std.proofs.lemmas.Str.{digit_value_digit}
 use Rattle.std.proofs.lemmas.Bool.Decides.{nat_tests}
 use Rattle.std.specs.Str.Parse.{digits_value}
 use Rattle.std.specs.Int.{IsInRange}
-use Rattle.std.specs.List.{prefix_len, AllByRecursion as All}
+use Rattle.std.specs.List.{prefix_len, AllByRecursion}
 use Rattle.letters.specs.Bytes.{isDigit, EachDigit}
 
 -- each of the run passes
-pub run-passes : {X : Type 0} (p : X → Bool) (xs : List X) → All (λ b. p b ≡ true) (take (prefix_len p xs) xs)
+pub run-passes : {X : Type 0} (p : X → Bool) (xs : List X) → AllByRecursion (λ b. p b ≡ true) (take (prefix_len p xs) xs)
 run-passes p [] = tt
 run-passes p (x ∷ xs) = go (p x) refl (run-passes p xs)
   where
-    go : (t : Bool) → p x ≡ t → All (λ b. p b ≡ true) (take (prefix_len p xs) xs) → All (λ b. p b ≡ true) (take (cond t (1 + prefix_len p xs) 0) (x ∷ xs))
-    go true e h = subst (λ n. All (λ b. p b ≡ true) (take n (x ∷ xs))) (sym (one-add (prefix_len p xs))) (e, h)
+    go : (t : Bool) → p x ≡ t → AllByRecursion (λ b. p b ≡ true) (take (prefix_len p xs) xs) → AllByRecursion (λ b. p b ≡ true) (take (cond t (1 + prefix_len p xs) 0) (x ∷ xs))
+    go true e h = subst (λ n. AllByRecursion (λ b. p b ≡ true) (take n (x ∷ xs))) (sym (one-add (prefix_len p xs))) (e, h)
     go false e h = tt
 
 -- the byte after the run does not
@@ -32,7 +32,7 @@ run_ends p (x ∷ xs) b more e = go (p x) refl (run_ends p xs b more) e
     go false q f h = let s : x ≡ b = cc in ap p (sym s) ∙ q
 
 -- a run is all of what passes
-pub run-exact : (p : ℕ → Bool) (w after : List ℕ) → All (λ b. p b ≡ true) w → ((b : ℕ) (more : List ℕ) → after ≡ b ∷ more → p b ≡ false) → prefix_len p (w ++ after) ≡ length w
+pub run-exact : (p : ℕ → Bool) (w after : List ℕ) → AllByRecursion (λ b. p b ≡ true) w → ((b : ℕ) (more : List ℕ) → after ≡ b ∷ more → p b ≡ false) → prefix_len p (w ++ after) ≡ length w
 run-exact p [] [] a h = refl
 run-exact p [] (b ∷ more) a h = ap (λ t. cond t (1 + prefix_len p more) 0) (h b more refl)
 run-exact p (x ∷ w) after a h = ap (λ t. cond t (1 + prefix_len p (w ++ after)) 0) a.0 ∙ one-add _ ∙ ap suc (run-exact p w after a.1 h)

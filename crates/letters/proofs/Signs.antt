@@ -2,7 +2,7 @@
 use Rattle.std.proofs.Common.{◌≡◌, ℕ, ◌<◌, Bool, true, false, cond, ◌&&◌, eqb, List, [], ◌∷◌, ◌++◌, length, Some, Option, sym, refl, ap, ◌∙◌, subst, arith}
 use Rattle.std.proofs.lemmas.List.{length_push, same_from_push}
 use Rattle.std.proofs.lemmas.Bool.{eqb-true, and_parts, and_from, both_ways}
-use Rattle.std.specs.List.{AllByRecursion as All}
+use Rattle.std.specs.List.{AllByRecursion}
 use Rattle.letters.specs.declared.kind.Kind.{Kind}
 use Rattle.letters.specs.declared.kind.Kind.TheVariants.{Open, Close, OpenSquare, CloseSquare, Comma, Semicolon, Plus, Minus, Times, Less, AtMost, Equal, Unequal, Becomes}
 use Rattle.letters.specs.Bytes.{isLetter, EachLetter}
@@ -52,7 +52,7 @@ pub data Longer (w : List ℕ) (b : ℕ) : Type 0 where
   letters : EachLetter w → isLetter b ≡ true → Longer w b
   equals : (c : ℕ) → w ≡ c ∷ [] → Mark c → b ≡ 61 → Longer w b
 
-push-parts : (P : ℕ → Type 0) (w : List ℕ) (b : ℕ) → All P (w ++ b ∷ []) → All P w × P b
+push-parts : (P : ℕ → Type 0) (w : List ℕ) (b : ℕ) → AllByRecursion P (w ++ b ∷ []) → AllByRecursion P w × P b
 push-parts P [] b h = (tt, h.0)
 push-parts P (x ∷ w) b h = let p = push-parts P w b h.1 in ((h.0, p.0), p.1)
 

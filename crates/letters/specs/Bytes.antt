@@ -1,6 +1,6 @@
 -- The bytes of a text: blanks, letters, digits, brackets.
 use Rattle.std.specs.Prelude.{◌≡◌, ℕ, ◌+◌, ◌-◌, Bool, true, cond, ◌&&◌, ◌||◌, List, [], ◌∷◌, ◌==◌, nat_le}
-use Rattle.std.specs.List.{AllByRecursion as All}
+use Rattle.std.specs.List.{AllByRecursion}
 use Rattle.letters.specs.declared.cutting.Lead.{Lead}
 use Rattle.letters.specs.declared.cutting.Lead.TheVariants.{Gap, Word, Number, Sign}
 use Rattle.letters.specs.declared.cutting.Run.{Run}
@@ -41,7 +41,7 @@ ofRun Letters = isLetter
 ofRun Digits = isDigit
 
 abbrev pub EachLetter : List ℕ → Type 0
-EachLetter w = All (λ b. isLetter b ≡ true) w
+EachLetter w = AllByRecursion (λ b. isLetter b ≡ true) w
 
 abbrev pub EachDigit : List ℕ → Type 0
-EachDigit w = All (λ b. isDigit b ≡ true) w
+EachDigit w = AllByRecursion (λ b. isDigit b ≡ true) w

@@ -1,4 +1,6 @@
 // Letters: a text cut into tokens, the longest at each place.
+#![tactic(auto)]
+
 pub mod cutting;
 pub mod kind;
 pub mod misspelt;

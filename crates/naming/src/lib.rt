@@ -1,4 +1,6 @@
 // The names of a sheet: what they stand for, and the first that is at fault.
+#![tactic(auto)]
+
 mod calls;
 mod conditions;
 mod declaring;

@@ -1,5 +1,5 @@
 -- What a refusal says of a text: that no value is written so, unless memory was wanting.
-use Rattle.std.specs.Prelude.{◌≡◌, ℕ, ◌^◌, ◌<◌, List, decimal, ◌≢◌}
+use Rattle.std.specs.Prelude.{ℕ, ◌^◌, ◌<◌, List, decimal, ◌≢◌}
 use Rattle.notation.specs.declared.misread.Misread.{Misread}
 use Rattle.notation.specs.declared.misread.Misread.TheVariants.{Number, Short, Relation, Bound, Term, Quantity, Limits, Form, Memory}
 

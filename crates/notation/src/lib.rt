@@ -1,4 +1,6 @@
 // How rows and numbers are written in a line of text, and read from one.
+#![tactic(auto)]
+
 mod misread;
 mod numerals;
 mod reading;

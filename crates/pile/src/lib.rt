@@ -1,4 +1,6 @@
 // A pile of entries over a lent slice: it grows by a push and falls back to a mark.
+#![tactic(auto)]
+
 ghost use Rattle.std.specs.Prelude.{◌≤◌, length};
 
 mod methods;

@@ -1,5 +1,5 @@
 -- How a derived row is made of its parts.
-use Rattle.std.proofs.Common.{◌≡◌, ℕ, Bool, true, false, cond, ◌&&◌, List, map, ℤ, Some, None, Option, sym, refl, ap, ◌∙◌, ap₂}
+use Rattle.std.proofs.Common.{◌≡◌, ℕ, Bool, true, false, cond, ◌&&◌, List, ℤ, Some, None, Option, refl, ap, ◌∙◌, ap₂}
 use Rattle.rows.specs.Limits.{small, allSmall}
 use Rattle.provers.specs.declared.derived.Derived.{Derived}
 use Rattle.provers.specs.Derivations.{kept, within, allModest, quotients}

@@ -1,3 +1,4 @@
+-- The law of Fourier-Motzkin: it proposes a multiplier for each fact and one for the goal, or nothing.
 use Rattle.std.specs.Prelude.{◌≡◌, ℕ, ◌+◌, ◌≤◌, Bool, true, false, cond, List, take, Some, None, Option, refl}
 use Rattle.std.proofs.Common.{arith}
 use Rattle.std.proofs.lemmas.List.{length-take}

@@ -16,7 +16,7 @@ pub trait Prover {
     fn ask(&self, question: Question<'_>, buffer: &mut [u32]) -> Option<usize>
         ensures count { result ≡ answer (proposal self.now question.entry.facts.now question.entry.goal.now) buffer.old }
         ensures after { buffer.new ≡ filled (proposal self.now question.entry.facts.now question.entry.goal.now) buffer.old }
-        ensures same { proposal self.now ≡ proposal self.now };
+        ensures same { proposal self.exit.now ≡ proposal self.entry.now };
 
     ghost short: { (s : Self) (facts : List Row) (goal : Row) → Short (proposal s facts goal) };
 }

@@ -1,5 +1,5 @@
 -- The quoting domain: the goal is one of the facts, with a bound no smaller.
-use Rattle.std.specs.Prelude.{ℕ, Bool, true, false, cond, ◌&&◌, List, [], ◌∷◌, ℤ, Some, None, Ok, Err, Option, int_le}
+use Rattle.std.specs.Prelude.{ℕ, Bool, true, false, cond, ◌&&◌, List, [], ◌∷◌, ℤ, Some, None, Ok, Option, int_le}
 use Rattle.std.specs.List.{slice_get}
 use Rattle.rows.specs.declared.row.Row.{Row}
 use Rattle.rows.specs.Questions.{isAtMost, wellShaped}

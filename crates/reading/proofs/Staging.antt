@@ -1,9 +1,9 @@
 -- From stage to stage: the tokens that were cut, and the sheet that was parsed.
-use Rattle.std.proofs.Common.{◌≡◌, ℕ, ◌+◌, ◌-◌, ◌<◌, ◌≤◌, Bool, true, false, cond, leb, ◌⊎◌, List, [], ◌∷◌, ◌++◌, length, get_or, take, drop, ℤ, Some, None, Ok, Err, Option, Result, sym, refl, ap, ◌∙◌, subst, ap₂, inl, inr, arith, le-leb, leb-true}
+use Rattle.std.proofs.Common.{◌≡◌, ℕ, ◌+◌, ◌-◌, ◌<◌, ◌≤◌, ⊎_elim, Bool, true, false, cond, leb, ◌⊎◌, List, [], ◌∷◌, ◌++◌, length, get_or, take, drop, ℤ, Some, None, Ok, Err, Option, Result, sym, refl, ap, ◌∙◌, subst, ap₂, inl, inr, arith, le-leb, leb-true}
 use Rattle.std.proofs.lemmas.List.{take_all, take_at, take-append-drop, length-take-le, get_or_past}
 use Rattle.std.proofs.ByRecursion.{All-get_or}
 use Rattle.std.proofs.lemmas.Bool.{cases_lt}
-use Rattle.std.specs.List.{AllByRecursion as All}
+use Rattle.std.specs.List.{AllByRecursion}
 use Rattle.letters.specs.declared.kind.Kind.TheVariants.{End}
 use Rattle.letters.specs.declared.token.Token.{Token}
 use Rattle.letters.specs.declared.misspelt.Misspelt.{Misspelt}
@@ -22,10 +22,16 @@ use Rattle.grammar.specs.Parsed.{source_of, Parsed}
 use Rattle.grammar.specs.Trees.{Source, rulesTo}
 use Rattle.grammar.proofs.Parts.{rules-front}
 use Rattle.syntax.specs.Lawful.{OnlySheet, NoSheet, Lawful}
+use Rattle.syntax.specs.Weights.{weightOf}
 use Rattle.naming.specs.Sources.{sheetIn}
 use Rattle.resolving.specs.Making.{Small}
 use Rattle.resolving.specs.Growing.{Piles}
 use Rattle.language.specs.declared.refusal.Refusal.{Refusal}
+use Rattle.pile.specs.declared.Pile.{Pile}
+use Rattle.records.specs.declared.entry.Param.{Param}
+use Rattle.records.specs.declared.entry.Entry.{Entry}
+use Rattle.resolving.specs.Resolving.{sheetOf}
+use Rattle.reading.specs.Answers.{Answer, Checked}
 use Rattle.reading.specs.Reading as Reading
 use Rattle.reading.specs.Reading.{in_range, misspelling, misreading, tokensOf, misspelt, no-sheet}
 
@@ -46,6 +52,12 @@ cut-err c w e = answer_err c.fault w (length c.tokens) e
 -- the tokens at the front
 pub front : (ts old all : List Token) (n : ℕ) → all ≡ laid ts old → n ≡ length ts → take (n - 0) all ≡ ts
 front ts old all n e h = ap₂ take (let k : n - 0 ≡ length ts = omega arith in k) e ∙ take_at ts (drop (length ts) old) (length ts) refl
+
+pub cut-front : (text : List ℕ) (old all : List Token) (n : ℕ) → Ok n ≡ answer (cut_of text) → all ≡ laid (cut_of text).tokens old → take (n - 0) all ≡ (cut_of text).tokens
+cut-front text old all n e w = front (cut_of text).tokens old all n w (cut_ok (cut_of text) n e).1
+
+pub cut-few : (text : List ℕ) (old all : List Token) (n k : ℕ) → Ok n ≡ answer (cut_of text) → all ≡ laid (cut_of text).tokens old → n ≤ k → length (take (n - 0) all) ≤ k
+cut-few text old all n k e w h = let a = ap length (cut-front text old all n e w) in let b = (cut_ok (cut_of text) n e).1 in omega arith
 
 -- their numerals are small
 pub small : (text : List ℕ) (ts : List Token) → Reads 0 text ts [] → (e q : ℕ) → Small (lookIn ts e q)
@@ -68,3 +80,19 @@ sheet-is text ts ns k h l m =
 pub refused-by-grammar : (text : List ℕ) (low high : ℤ) (records : ℕ) (w : Unread) (ts : List Token) (ns : List Node) (room : ℕ) → in_range low high records ≡ true → (cut_of text).fault ≡ None → ts ≡ (cut_of text).tokens → length ts ≤ room → Parsed (Err w) ts (length text) room ns → Lawful (Err w) ts (length text) ns → Reading.Reads text low high records (Err (misreading w))
 refused-by-grammar text low high records Full ts ns room i c e h p l = absurd (let k = p.said in omega arith)
 refused-by-grammar text low high records (Fault q) ts ns room i c e h p l = no-sheet i c (subst (λ xs. NoSheet (lookIn xs (length text)) q) e l)
+
+-- what names and counts say is the answer, where the stages before them passed
+pub checked-answers : (r : Result (Unit {0}) Refusal) (text : List ℕ) (low high : ℤ) (records : ℕ) (sheet : Raw.Sheet) (p : Piles) (ps : Pile Param) (es : Pile Entry) → in_range low high records ≡ true → (cut_of text).fault ≡ None → OnlySheet (tokensOf text) sheet → weightOf sheet ≤ 16384 → Checked r text sheet p ps es → Answer r text low high records p ps es
+checked-answers (Ok u) text low high records sheet p ps es i c o w k = record {
+  rules = sheetOf text sheet;
+  reads = Reading.read i c o k.named k.counted;
+  stand = k.made.stand;
+  nodes = omega (arith, k.made.nodes);
+  conditions = omega (arith, k.made.conditions);
+  items = omega (arith, k.made.items);
+  params = omega (arith, k.made.params);
+  entries-few = omega (arith, k.made.rules);
+}
+checked-answers (Err r) text low high records sheet p ps es i c o w (place, k) =
+    let P : Refusal → Type 0 = λ r. Reading.Reads text low high records (Err r) in
+    ⊎_elim (λ (e, n). subst P (sym e) (Reading.misnamed i c o n)) (λ (e, n, f). subst P (sym e) (Reading.too_many i c o n f)) k

@@ -1,6 +1,6 @@
 -- What stands still stands when tables grow, and is what the tables are read as.
-use Rattle.std.proofs.Common.{◌≡◌, ℕ, zero, suc, ◌<◌, ◌≤◌, cond, List, [], ◌∷◌, ◌++◌, map, length, Some, None, Option, sym, refl, ap, ◌∙◌, subst, ap₂, arith, lt-ltb}
-use Rattle.std.specs.List.{AllByRecursion as All, slice_get}
+use Rattle.std.proofs.Common.{◌≡◌, ℕ, zero, suc, ◌<◌, ◌≤◌, cond, List, [], ◌∷◌, ◌++◌, map, length, Some, None, sym, refl, ap, ◌∙◌, subst, ap₂, arith, lt-ltb}
+use Rattle.std.specs.List.{AllByRecursion, slice_get}
 use Rattle.std.proofs.ByRecursion.{All-weaker}
 use Rattle.language.specs.Tree as Tree
 use Rattle.language.specs.Tree.{Expr, Args}
@@ -55,7 +55,7 @@ condition-stays : (items more : List Item) (c : Condition) → SidesIn (length i
 condition-stays items more c h =
     ap₂ (λ l r. record { place = c.place; left = l; comparison = c.comparison; right = r }) (side-stays items more c.from c.middle h.0) (side-stays items more c.middle c.to h.1)
 
-pub conditions-stay : (items more : List Item) (cs : List Condition) → All (SidesIn (length items)) cs → map (conditionIn (items ++ more)) cs ≡ map (conditionIn items) cs
+pub conditions-stay : (items more : List Item) (cs : List Condition) → AllByRecursion (SidesIn (length items)) cs → map (conditionIn (items ++ more)) cs ≡ map (conditionIn items) cs
 conditions-stay items more [] h = refl
 conditions-stay items more (c ∷ cs) h = ap₂ ◌∷◌ (condition-stays items more c h.0) (conditions-stay items more cs h.1)
 
@@ -63,7 +63,7 @@ pub longer : {X : Type 0} (xs ys : List X) → length xs ≤ length (xs ++ ys)
 longer [] ys = omega arith
 longer (x ∷ xs) ys = let h = longer xs ys in omega arith
 
-pub sides-in : (m n : ℕ) → m ≤ n → (cs : List Condition) → All (SidesIn m) cs → All (SidesIn n) cs
+pub sides-in : (m n : ℕ) → m ≤ n → (cs : List Condition) → AllByRecursion (SidesIn m) cs → AllByRecursion (SidesIn n) cs
 sides-in m n h cs a = All-weaker (SidesIn m) (SidesIn n) (λ c k. (omega (arith, k.0), omega (arith, k.1))) cs a
 
 pub listed-on : (s t : Tables) (from to : ℕ) (cs : List Tree.Condition) → Grows s t → Listed s from to cs → Listed t from to cs
@@ -75,7 +75,7 @@ listed-on s t from to cs g l =
     let st : stretch t.conditions from to ≡ stretch s.conditions from to = ap (λ xs. stretch xs from to) (sym sc) ∙ stays s.conditions ds from to l.within in
     record {
       within = omega (arith, l.within, longer s.conditions ds, ap length sc);
-      sides = subst (λ xs. All (SidesIn (length t.items)) xs) (sym st) (sides-in (length s.items) (length t.items) (omega (arith, longer s.items is, ap length si)) _ l.sides);
+      sides = subst (λ xs. AllByRecursion (SidesIn (length t.items)) xs) (sym st) (sides-in (length s.items) (length t.items) (omega (arith, longer s.items is, ap length si)) _ l.sides);
       reads = ap (map (conditionIn t.items)) st ∙ ap (λ xs. map (conditionIn xs) (stretch s.conditions from to)) (sym si) ∙ conditions-stay s.items is _ l.sides ∙ l.reads;
     }
 

@@ -1,6 +1,6 @@
 -- Trees that stand in tables. What stands still stands when tables grow.
 use Rattle.std.specs.Prelude.{◌≡◌, ℕ, ◌<◌, ◌≤◌, List, ◌++◌, length, Some}
-use Rattle.std.specs.List.{AllByRecursion as All, slice_get}
+use Rattle.std.specs.List.{AllByRecursion, slice_get}
 use Rattle.language.specs.declared.sign.Operator.{Operator}
 use Rattle.language.specs.declared.sign.Comparison.{Comparison}
 use Rattle.language.specs.Tree as Tree
@@ -16,7 +16,7 @@ SidesIn n c = (c.middle ≤ n) × (c.to ≤ n)
 -- these conditions lie in their table from one position up to another
 pub record Listed (t : Tables) (from to : ℕ) (cs : List Tree.Condition) : Type 0 where
   pub within : to ≤ length t.conditions
-  pub sides : All (SidesIn (length t.items)) (stretch t.conditions from to)
+  pub sides : AllByRecursion (SidesIn (length t.items)) (stretch t.conditions from to)
   pub reads : conditionsIn t.items t.conditions from to ≡ cs
 
 mutual

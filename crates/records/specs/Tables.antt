@@ -8,7 +8,6 @@ use Rattle.records.specs.declared.condition.Item.{Item}
 use Rattle.records.specs.declared.condition.Condition.{Condition}
 use Rattle.records.specs.declared.entry.Param.{Param}
 use Rattle.records.specs.declared.entry.Param.TheVariants as Params
-use Rattle.records.specs.declared.entry.Entry.{Entry}
 
 pub record Tables : Type 0 where
   pub nodes : List Node

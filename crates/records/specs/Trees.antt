@@ -1,5 +1,5 @@
 -- The trees that nodes stand for. A node is read from its parts, which are to lie below it.
-use Rattle.std.specs.Prelude.{ℕ, zero, suc, Bool, cond, List, map, length, Some, None, Option, nat_lt}
+use Rattle.std.specs.Prelude.{ℕ, zero, suc, cond, List, map, length, Some, None, Option, nat_lt}
 use Rattle.std.specs.List.{slice_get}
 use Rattle.language.specs.Tree.{Expr, Args, num, name, calc, read, call, bind, test, put, claim, end, value, lent, noExpr, Rule}
 use Rattle.language.specs.Tree as Tree

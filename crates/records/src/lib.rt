@@ -1,4 +1,6 @@
 // The tree of a sheet in flat tables: nodes, conditions, items, parameters and rules, by position.
+#![tactic(auto)]
+
 pub mod condition;
 pub mod entry;
 pub mod node;

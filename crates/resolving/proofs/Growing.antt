@@ -2,7 +2,7 @@
 use Rattle.std.proofs.Common.{◌≡◌, ℕ, suc, ◌+◌, ◌<◌, ◌≤◌, cond, List, [], ◌∷◌, ◌++◌, map, length, Some, sum_by, sym, refl, ap, ◌∙◌, subst, ap₂, arith}
 use Rattle.std.proofs.lemmas.List.{append-nil, length-append, length_push, length-map}
 use Rattle.std.proofs.lemmas.List.Sums.{sum_by-cons, sum_by_push, sum_by-append}
-use Rattle.std.specs.List.{AllByRecursion as All, slice_get}
+use Rattle.std.specs.List.{AllByRecursion, slice_get}
 use Rattle.pile.specs.declared.Pile.{Pile}
 use Rattle.pile.specs.Entries.{entries, room}
 use Rattle.language.specs.Tree as Tree
@@ -107,7 +107,7 @@ unfolding conditionsIn
 listed_here ys ns ds ds' is is' from to l f t =
     let e : stretch ds' from to ≡ l.more = ap₂ (stretch ds') f t ∙ ap (λ xs. stretch xs (length ds) (length xs)) l.grown ∙ stretched ds l.more in record {
       within = omega arith;
-      sides = subst (λ xs. All (SidesIn (length is')) xs) (sym e) l.sides;
+      sides = subst (λ xs. AllByRecursion (SidesIn (length is')) xs) (sym e) l.sides;
       reads = ap (map (conditionIn is')) e ∙ l.stand;
     }
 

@@ -3,7 +3,7 @@ use Rattle.std.proofs.Common.{◌≡◌, ℕ, suc, ◌+◌, ◌-◌, ◌<◌, �
 use Rattle.std.proofs.lemmas.List.{append-nil, append_assoc, length-append, drop_at, take_all, get_or_past}
 use Rattle.std.proofs.lemmas.Bool.{cases_lt}
 use Rattle.std.proofs.ByRecursion.{All-append}
-use Rattle.std.specs.List.{AllByRecursion as All}
+use Rattle.std.specs.List.{AllByRecursion}
 use Rattle.letters.specs.declared.token.Token.{Token}
 use Rattle.letters.specs.declared.kind.Kind.TheVariants.{Numeral, Times, Comma, End}
 use Rattle.letters.specs.Kinds.{sameKind}

@@ -1,6 +1,6 @@
 -- What is made of a written sheet: what goes into the tables, and how they grow.
 use Rattle.std.specs.Prelude.{◌≡◌, ℕ, ◌+◌, ◌<◌, ◌≤◌, List, ◌++◌, map, length}
-use Rattle.std.specs.List.{AllByRecursion as All}
+use Rattle.std.specs.List.{AllByRecursion}
 use Rattle.letters.specs.declared.token.Token.{Token}
 use Rattle.grammar.specs.Trees.{look_of}
 use Rattle.naming.specs.declared.written.Written.{Written}
@@ -29,7 +29,7 @@ pub record Listing (ys : List Tree.Condition) (ds ds' : List Condition) (is is' 
   pub more : List Condition
   pub grown : ds' ≡ ds ++ more
   pub items : (xs : List Item) × (is' ≡ is ++ xs)
-  pub sides : All (SidesIn (length is')) more
+  pub sides : AllByRecursion (SidesIn (length is')) more
   pub stand : map (conditionIn is') more ≡ ys
 
 -- one condition whose items lie in the table of items, which grew

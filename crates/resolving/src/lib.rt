@@ -1,4 +1,6 @@
 // Names resolved: a sheet's written tree into the tables that it lies in.
+#![tactic(auto)]
+
 mod conditions;
 mod context;
 mod exprs;

@@ -6,7 +6,7 @@ use Rattle.std.proofs.lemmas.Int.{ints}
 use Rattle.std.proofs.lemmas.Bool.{and_parts}
 use Rattle.ints.specs.Sums.{Near}
 use Rattle.rows.specs.declared.row.Row.{Row}
-use Rattle.rows.specs.Limits.{small, allSmall, fits}
+use Rattle.rows.specs.Limits.{small, allSmall}
 use Rattle.rows.specs.Meaning.{coef}
 
 pub small_is : (z : ℤ) → small z ≡ true → Near 4000000 z

@@ -1,5 +1,5 @@
 -- What keeps a row's value, and what keeps rows met.
-use Rattle.std.proofs.Common.{◌≡◌, ℕ, zero, suc, List, [], ◌∷◌, get_or, take, pos, ◌*ℤ◌, Some, refl, ap, subst, arith}
+use Rattle.std.proofs.Common.{◌≡◌, ℕ, zero, suc, List, [], ◌∷◌, get_or, take, pos, ◌*ℤ◌, Some, ap, subst, arith}
 use Rattle.std.specs.List.{slice_get}
 use Rattle.ints.specs.Sums.{sum_to}
 use Rattle.rows.specs.declared.row.Row.{Row}

@@ -1,4 +1,6 @@
 // Rows over sixteen quantities, and the questions that are made of them.
+#![tactic(auto)]
+
 pub mod question;
 pub mod row;
 

@@ -1,6 +1,6 @@
 -- What the grammar does with a token of a kind in place of one of the tokens.
 use Rattle.std.specs.Prelude.{◌≡◌, ℕ, ◌+◌, ◌^◌, ◌<◌, Bool, true, false, not, List, [], ◌∷◌, ◌++◌, take, Some, None, Ok, Err, Option, Result, ◌==◌, ◌≢◌}
-use Rattle.std.specs.List.{prefix_len, AllByRecursion as All}
+use Rattle.std.specs.List.{prefix_len, AllByRecursion}
 use Rattle.letters.specs.declared.kind.Kind.{Kind}
 use Rattle.letters.specs.declared.token.Token.{Token}
 use Rattle.letters.specs.Tokens.{tokenOf}
@@ -24,7 +24,7 @@ number_at ts w = prefix_len (elsewhere w) ts
 
 -- none of these tokens is at this place
 abbrev pub Apart : List Token → ℕ → Type 0
-Apart ts w = All (λ t. elsewhere w t ≡ true) ts
+Apart ts w = AllByRecursion (λ t. elsewhere w t ≡ true) ts
 
 -- the tokens, and one of this kind at a place
 abbrev pub probed : List Token → ℕ → Kind → List Token

@@ -1,4 +1,6 @@
 // Showing: a place of a text for people to see, and what the grammar would have taken there.
+#![tactic(auto)]
+
 pub mod kinds;
 mod line;
 mod marks;

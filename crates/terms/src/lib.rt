@@ -1,4 +1,6 @@
 // The arithmetic of terms, and the rows that compare them.
+#![tactic(auto)]
+
 mod arrays;
 pub mod comparing;
 mod numbers;

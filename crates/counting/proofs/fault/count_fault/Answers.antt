@@ -10,9 +10,9 @@ use Rattle.counting.proofs.fault.count_fault.Goals as goal
 pub returns : goal.returns
 returns c =
     let w = c.args.sheet in let bytes = length w.text.now in let rules = rulesOf w in
-    let a = c.first-over-exprs.ensures.value ∙ ap (λ f. firstOver 1024 f 0 (suc bytes)) (nodes-placed c.args.nodes.now) ∙ least-listed _ in
-    let b = c.first-over-listed.ensures.value ∙ ap (λ f. firstOver 128 f 0 (suc bytes)) (conditions-placed c.args.conditions.now) ∙ least-listed _ in
-    let v : c.earlier-2.result ≡ flatFault bytes rules c.args.nodes.now c.args.conditions.now = least-both (rulesOver rules ++ headsOver rules) _ c.earlier-2.ensures (least-both (rulesOver rules) (headsOver rules) c.earlier-heads.ensures c.rules-over.ensures c.heads-over.ensures) (least-both _ _ c.earlier.ensures a b) in
+    let a = c.first_over-exprs.ensures.value ∙ ap (λ f. firstOver 1024 f 0 (suc bytes)) (nodes-placed c.args.nodes.now) ∙ least-listed _ in
+    let b = c.first_over-listed.ensures.value ∙ ap (λ f. firstOver 128 f 0 (suc bytes)) (conditions-placed c.args.conditions.now) ∙ least-listed _ in
+    let v : c.earlier-2.result ≡ flatFault bytes rules c.args.nodes.now c.args.conditions.now = least-both (rulesOver rules ++ headsOver rules) _ c.earlier-2.ensures (least-both (rulesOver rules) (headsOver rules) c.earlier-heads.ensures c.rules_over.ensures c.heads_over.ensures) (least-both _ _ c.earlier.ensures a b) in
     record {
       value = v;
       within = λ e. none_within bytes rules _ _ (sym v ∙ e);

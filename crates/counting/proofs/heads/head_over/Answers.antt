@@ -6,12 +6,12 @@ use Rattle.counting.specs.Counts.{places_of}
 use Rattle.counting.proofs.Rules.{head-not, head-here}
 use Rattle.counting.proofs.heads.head_over.Goals as goal
 
-pub returns-in-err-rule : goal.returns-in-err-rule
-returns-in-err-rule c = let w = c.args.sheet in c.from-residual.ensures ∙ head-not _ (rule-not (source_of w) w.nodes.now c.args.at c.in-err-rule.ensures)
+pub returns-in_err-rule : goal.returns-in_err-rule
+returns-in_err-rule c = let w = c.args.sheet in c.from_residual.ensures ∙ head-not _ (rule-not (source_of w) w.nodes.now c.args.at c.in_err-rule.ensures)
 
 pub returns : goal.returns
 returns c =
     let w = c.args.sheet in
     let on = c.head-head.ensures in
-    head-here _ _ c.nth-param.result c.nth-param-2.result _ (rule-here (source_of w) w.nodes.now c.args.at c.in-ok-rule.rule c.in-ok-rule.ensures)
-    (c.nth-param.ensures ∙ ap (λ ps. slice_get (places_of true ps) 4) on) (c.nth-param-2.ensures ∙ ap (λ ps. slice_get (places_of false ps) 8) on) c.earlier.ensures
+    head-here _ _ c.nth_param.result c.nth_param-2.result _ (rule-here (source_of w) w.nodes.now c.args.at c.in_ok-rule.rule c.in_ok-rule.ensures)
+    (c.nth_param.ensures ∙ ap (λ ps. slice_get (places_of true ps) 4) on) (c.nth_param-2.ensures ∙ ap (λ ps. slice_get (places_of false ps) 8) on) c.earlier.ensures

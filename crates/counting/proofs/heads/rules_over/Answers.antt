@@ -9,13 +9,13 @@ use Rattle.counting.proofs.heads.rules_over.Goals as goal
 pub loop-at-init : goal.loop-at-init
 loop-at-init c = let w = c.args.sheet in (sym (rules-none (source_of w) w.nodes.now), omega arith)
 
-pub loop-at-preserved-in-default : goal.loop-at-preserved-in-default
-loop-at-preserved-in-default c =
+pub loop-at-preserved-in_default : goal.loop-at-preserved-in_default
+loop-at-preserved-in_default c =
     let w = c.args.sheet in let s = source_of w in let at = c.loop-at.at in
-    (c.loop-at.invariant.0 ∙ sym (rules-same s w.nodes.now at (rule-not s w.nodes.now at c.in-default.ensures)), c.loop-at.invariant.1)
+    (c.loop-at.invariant.0 ∙ sym (rules-same s w.nodes.now at (rule-not s w.nodes.now at c.in_default.ensures)), c.loop-at.invariant.1)
 
-pub returns-then-rules-eq-MOST-RULES : goal.returns-then-rules-eq-MOST-RULES
-returns-then-rules-eq-MOST-RULES c =
+pub returns-then-rules-eq-MOST_RULES : goal.returns-then-rules-eq-MOST_RULES
+returns-then-rules-eq-MOST_RULES c =
     let w = c.args.sheet in let s = source_of w in let at = c.loop-at.at in
     let few : length (rulesTo s at w.nodes.now) ≡ 32 = omega (arith, c.loop-at.invariant.0) in
     ap (λ (t : Token). Some t.place) c.token.ensures ∙ rules-past s w.nodes.now at (length w.nodes.now) _ (rule-here s w.nodes.now at c.in-Some.rule c.in-Some.ensures) few (omega arith)

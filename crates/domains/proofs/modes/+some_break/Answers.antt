@@ -1,4 +1,4 @@
-use Rattle.std.proofs.Common.{◌≡◌, ℕ, ◌-◌, Bool, true, false, set, sym, refl, ap, ◌∙◌, arith, rules}
+use Rattle.std.proofs.Common.{◌≡◌, ℕ, ◌-◌, Bool, set, sym, refl, ap, ◌∙◌, arith}
 use Rattle.ints.specs.Tests.{anyBelow}
 use Rattle.ints.proofs.Belows.{any-more, any_found}
 use Rattle.domains.specs.Modes.{broken}
@@ -6,24 +6,24 @@ use Rattle.domains.proofs.Trying.{broken-skip, broken-each, broken-none}
 use Rattle.domains.proofs.modes.+some_break.Goals as goal
 
 pub returns-then-n-eq0 : goal.returns-then-n-eq0
-returns-then-n-eq0 t c = c.breaks-goal.ensures ∙ sym (broken-none c.args.facts.now c.args.goal.now c.args.n c.args.point c.if-n-eq0.true)
+returns-then-n-eq0 t c = c.breaks_goal.ensures ∙ sym (broken-none c.args.facts.now c.args.goal.now c.args.n c.args.point c.if-n-eq0.true)
 
 pub returns-then-not-flags-j : goal.returns-then-not-flags-j
-returns-then-not-flags-j t c = c.some-break.ensures ∙ sym (broken-skip c.args.facts.now c.args.goal.now c.args.n c.args.point c.if-n-eq0.false (sym (c.requires.flagged _ (omega arith)) ∙ c.if-not-flags-j.true))
+returns-then-not-flags-j t c = c.some_break.ensures ∙ sym (broken-skip c.args.facts.now c.args.goal.now c.args.n c.args.point c.if-n-eq0.false (sym (c.requires.flagged _ (omega arith)) ∙ c.if-not-flags-j.true))
 
 pub loop-v-init : goal.loop-v-init
 unfolding anyBelow
 loop-v-init t c = refl
 
-pub returns-then-some-break : goal.returns-then-some-break
-returns-then-some-break t c =
+pub returns-then-some_break : goal.returns-then-some_break
+returns-then-some_break t c =
     let f : ℕ → Bool = λ v. broken c.args.facts.now c.args.goal.now (c.args.n - 1) (set c.args.point (c.args.n - 1) v) in
-    sym (broken-each c.args.facts.now c.args.goal.now c.args.n c.args.point c.if-n-eq0.false (sym (c.requires.flagged _ (omega arith)) ∙ c.if-not-flags-j.false) ∙ any_found f 16 c.loop-v.v c.loop-v-test.true (sym c.if-some-break.ensures))
+    sym (broken-each c.args.facts.now c.args.goal.now c.args.n c.args.point c.if-n-eq0.false (sym (c.requires.flagged _ (omega arith)) ∙ c.if-not-flags-j.false) ∙ any_found f 16 c.loop-v.v c.loop-v-test.true (sym c.if-some_break.ensures))
 
 pub loop-v-preserved : goal.loop-v-preserved
 loop-v-preserved t c =
     let f : ℕ → Bool = λ v. broken c.args.facts.now c.args.goal.now (c.args.n - 1) (set c.args.point (c.args.n - 1) v) in
-    any-more f c.loop-v.v c.loop-v.invariant (sym c.if-some-break.ensures)
+    any-more f c.loop-v.v c.loop-v.invariant (sym c.if-some_break.ensures)
 
 pub returns : goal.returns
 returns t c =

@@ -3,8 +3,8 @@ use Rattle.ints.specs.Tests.{anyBelow}
 use Rattle.domains.specs.Modes.{broken}
 use Rattle.domains.proofs.modes.+some_break.Given as goal
 
-abbrev pub decreases-some-break : goal.decreases-some-break
-decreases-some-break l = l.n
+abbrev pub decreases-some_break : goal.decreases-some_break
+decreases-some_break l = l.n
 
 abbrev pub invariant-loop-v : goal.invariant-loop-v
 invariant-loop-v l = anyBelow l.v (λ v. broken l.facts l.goal l.j (set l.point l.j v)) ≡ false

@@ -1,4 +1,4 @@
-use Rattle.std.proofs.Common.{◌≡◌, ℕ, ◌+◌, Bool, true, false, cond, get_or, sym, refl, ap, ◌∙◌, arith, rules}
+use Rattle.std.proofs.Common.{◌≡◌, ℕ, ◌+◌, Bool, true, false, cond, get_or, sym, refl, ap, ◌∙◌, arith}
 use Rattle.ints.specs.Tests.{countBelow}
 use Rattle.ints.proofs.Belows.{count-more, count-bound}
 use Rattle.domains.proofs.modes.count.Goals as goal
@@ -8,8 +8,8 @@ pub loop-j-init : goal.loop-j-init
 unfolding countBelow
 loop-j-init c = refl
 
-pub overflow-add-n : goal.overflow-add-n
-overflow-add-n c =
+pub overflow_add-n : goal.overflow_add-n
+overflow_add-n c =
     let p : ℕ → Bool = λ k. get_or c.args.flags.now k false in
     omega (arith, c.loop-j.invariant, count-bound p c.loop-j.j)
 

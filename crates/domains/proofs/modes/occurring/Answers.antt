@@ -1,4 +1,4 @@
-use Rattle.std.proofs.Common.{◌≡◌, false, length, get_or, ap, ◌∙◌, arith, length-set, rules, below_more}
+use Rattle.std.proofs.Common.{false, ◌∙◌, arith, length-set, below_more}
 use Rattle.std.proofs.lemmas.List.{get_or-set_same, get_or-set_other}
 use Rattle.domains.proofs.modes.occurring.Goals as goal
 
@@ -8,5 +8,5 @@ loop-j-preserved c =
       simp length-set inv.0,
       below_more _ _
           (λ k h. get_or-set_other flags j k _ false (omega arith) ∙ inv.1 k h)
-          (get_or-set_same flags j _ false (omega arith) ∙ c.occurs-at.ensures),
+          (get_or-set_same flags j _ false (omega arith) ∙ c.occurs_at.ensures),
     )

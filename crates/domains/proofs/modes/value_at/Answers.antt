@@ -25,8 +25,8 @@ pub loop-j-init : goal.loop-j-init
 unfolding sum_to
 loop-j-init c = (refl, search rules)
 
-pub overflow-add-sum : goal.overflow-add-sum
-overflow-add-sum c =
+pub overflow_add-sum : goal.overflow_add-sum
+overflow_add-sum c =
     let n = turn_near c in
     let v = c.loop-j.invariant in
     omega (arith, ints)

@@ -6,5 +6,5 @@ use Rattle.grammar.proofs.stretch.stands.Goals as goal
 
 pub returns : goal.returns
 returns c =
-    let told : c.is.result ≡ is_a c.args.kind (lookIn c.args.tokens.now c.args.end c.args.at) = c.is.ensures ∙ ap (λ (t : Token). is_a c.args.kind t) c.token-at.ensures in
+    let told : c.is.result ≡ is_a c.args.kind (lookIn c.args.tokens.now c.args.end c.args.at) = c.is.ensures ∙ ap (λ (t : Token). is_a c.args.kind t) c.token_at.ensures in
     record { told = told; inside = λ h. inside c.args.tokens.now c.args.end c.args.at c.args.kind (sym told ∙ h) c.requires }

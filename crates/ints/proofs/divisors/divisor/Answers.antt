@@ -1,4 +1,4 @@
-use Rattle.std.proofs.Common.{◌≡◌, max, get_or, take, fold, sym, ap, ◌∙◌, arith}
+use Rattle.std.proofs.Common.{max, get_or, fold, sym, ap, ◌∙◌, arith}
 use Rattle.std.proofs.lemmas.List.{take_all}
 use Rattle.std.proofs.lemmas.List.Sums.{fold_more}
 use Rattle.ints.specs.Divisors.{gcdOf}

@@ -1,4 +1,4 @@
-use Rattle.std.proofs.Common.{◌≡◌, sym, ◌∙◌}
+use Rattle.std.proofs.Common.{sym, ◌∙◌}
 use Rattle.ints.proofs.Euclid.{gcd-step, gcd-none}
 use Rattle.ints.proofs.divisors.gcd.Goals as goal
 

@@ -10,23 +10,23 @@ use Rattle.letters.proofs.Steps.{before, before-push, cut-blank, cut-bad, cut-fu
 use Rattle.letters.proofs.Finishing.{finish, finish-long, Finished}
 use Rattle.letters.proofs.cutting.cut.Goals as goal
 
-pub returns-then-text-gt-MOST-BYTES : goal.returns-then-text-gt-MOST-BYTES
-returns-then-text-gt-MOST-BYTES c = let f = finish-long c.args.text.now c.args.tokens.now c.if-text-gt-MOST-BYTES.true in record { value = f.value; written = f.written; few = tt; brackets = f.brackets; law = f.law }
+pub returns-then-text-gt-MOST_BYTES : goal.returns-then-text-gt-MOST_BYTES
+returns-then-text-gt-MOST_BYTES c = let f = finish-long c.args.text.now c.args.tokens.now c.if-text-gt-MOST_BYTES.true in record { value = f.value; written = f.written; few = tt; brackets = f.brackets; law = f.law }
 
 pub loop-at-preserved-in-Blank : goal.loop-at-preserved-in-Blank
 loop-at-preserved-in-Blank c = (omega arith, omega arith, c.loop-at.invariant.2, c.loop-at.invariant.3, c.loop-at.invariant.4 ∙ ap (before (take c.loop-at.count c.loop-at.tokens)) (cut-blank c.args.text.now c.loop-at.at c.loop-at.depth c.loop-at-test.true c.in-Blank.ensures))
 
-pub returns-in-err-depth : goal.returns-in-err-depth
-returns-in-err-depth c =
-    let p = err_from_is_err_and c.from-residual.result c.from-residual.ensures.1 in
-    let m = c.in-err-depth.field-0.0 in
+pub returns-in_err-depth-in-Part : goal.returns-in_err-depth-in-Part
+returns-in_err-depth-in-Part c =
+    let p = err_from_is_err_and c.from_residual.result c.from_residual.ensures.1 in
+    let m = c.in_err-depth-in-Part.field-0.0 in
     let f = finish c.args.text.now c.loop-at.count c.loop-at.tokens c.args.tokens.now (Some m) _ (omega arith) (omega arith) c.loop-at.invariant.3 c.loop-at.invariant.4
-    (cut-full c.args.text.now c.loop-at.at c.loop-at.depth c.loop-at-test.true c.in-Part.token m c.in-Part.ensures c.in-err-depth.ensures) in
+    (cut-full c.args.text.now c.loop-at.at c.loop-at.depth c.loop-at-test.true c.in-Part.token m c.in-Part.ensures c.in_err-depth-in-Part.ensures) in
     let g = subst (λ (r : Result _ Misspelt). Finished c.args.text.now r c.loop-at.tokens c.args.tokens.now) (sym (p.1 ∙ ap Err p.2)) f in
-    record { value = g.value; written = g.written; few = IfOk-from_err c.from-residual.result (λ n. n ≤ 16384) c.from-residual.ensures.0; brackets = g.brackets; law = g.law }
+    record { value = g.value; written = g.written; few = IfOk-from_err c.from_residual.result (λ n. n ≤ 16384) c.from_residual.ensures.0; brackets = g.brackets; law = g.law }
 
-pub overflow-add-at-in-Part : goal.overflow-add-at-in-Part
-overflow-add-at-in-Part c = let f = part-fits c.args.text.now c.loop-at.at c.in-Part.token c.loop-at-test.true c.in-Part.ensures in omega arith
+pub overflow_add-at-in-Part : goal.overflow_add-at-in-Part
+overflow_add-at-in-Part c = let f = part-fits c.args.text.now c.loop-at.at c.in-Part.token c.loop-at-test.true c.in-Part.ensures in omega arith
 
 pub loop-at-smaller : goal.loop-at-smaller
 loop-at-smaller c = let f = part-fits c.args.text.now c.loop-at.at c.in-Part.token c.loop-at-test.true c.in-Part.ensures in omega arith
@@ -36,12 +36,12 @@ loop-at-preserved c =
     let t = c.in-Part.token in let n = c.loop-at.count in let ts = c.loop-at.tokens in let old = c.args.tokens.now in
     let f = part-fits c.args.text.now c.loop-at.at t c.loop-at-test.true c.in-Part.ensures in
     let room : n < length ts = omega arith in
-    let rest = cutFrom 0 c.in-ok-depth.depth (c.loop-at.at + t.size) (drop (c.loop-at.at + t.size) c.args.text.now) in (
+    let rest = cutFrom 0 c.in_ok-depth-in-Part.depth (c.loop-at.at + t.size) (drop (c.loop-at.at + t.size) c.args.text.now) in (
       f.1,
       omega arith,
       simp length-set c.loop-at.invariant.2,
       drop-set-lt (n + 1) ts n t (omega arith) ∙ sym (drop-drop 1 n ts) ∙ ap (λ (l : List Token). drop 1 l) c.loop-at.invariant.3 ∙ drop-drop 1 n old,
-      c.loop-at.invariant.4 ∙ ap (before (take n ts)) (cut-part c.args.text.now c.loop-at.at c.loop-at.depth c.loop-at-test.true t c.in-ok-depth.depth c.in-Part.ensures f.0 c.in-ok-depth.ensures)
+      c.loop-at.invariant.4 ∙ ap (before (take n ts)) (cut-part c.args.text.now c.loop-at.at c.loop-at.depth c.loop-at-test.true t c.in_ok-depth-in-Part.depth c.in-Part.ensures f.0 c.in_ok-depth-in-Part.ensures)
           ∙ before-push (take n ts) t rest ∙ ap (λ (l : List Token). before l rest) (sym (take_more_set ts n t room)),
     )
 

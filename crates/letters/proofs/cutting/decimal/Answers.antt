@@ -4,14 +4,14 @@ use Rattle.std.specs.Str.Parse.{digits_value}
 use Rattle.letters.proofs.Running.{digit-range, value-front, value-step}
 use Rattle.letters.proofs.cutting.decimal.Goals as goal
 
-pub overflow-mul-number : goal.overflow-mul-number
-overflow-mul-number c = let h = value-front c.args.digits.now c.loop-digit.digit-index (omega arith) c.requires.all in omega (arith, c.loop-digit.invariant)
+pub overflow_mul-number : goal.overflow_mul-number
+overflow_mul-number c = let h = value-front c.args.digits.now c.loop-digit.digit-index (omega arith) c.requires.all in omega (arith, c.loop-digit.invariant)
 
-pub overflow-sub-digit : goal.overflow-sub-digit
-overflow-sub-digit c = (digit-range c.args.digits.now c.loop-digit.digit-index c.loop-digit-test.true c.requires.all).0
+pub overflow_sub-digit : goal.overflow_sub-digit
+overflow_sub-digit c = (digit-range c.args.digits.now c.loop-digit.digit-index c.loop-digit-test.true c.requires.all).0
 
-pub overflow-add-number : goal.overflow-add-number
-overflow-add-number c =
+pub overflow_add-number : goal.overflow_add-number
+overflow_add-number c =
     let h = value-front c.args.digits.now c.loop-digit.digit-index (omega arith) c.requires.all in
     let d = digit-range c.args.digits.now c.loop-digit.digit-index c.loop-digit-test.true c.requires.all in
     omega (arith, c.loop-digit.invariant)

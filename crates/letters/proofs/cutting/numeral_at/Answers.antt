@@ -8,5 +8,5 @@ use Rattle.letters.proofs.cutting.numeral_at.Goals as goal
 pub decimal-value-requires : goal.decimal-value-requires
 decimal-value-requires c =
     let bs = drop c.args.at c.args.text.now in
-    let e : c.args.at + c.run-at-size.result - c.args.at ≡ prefix_len isDigit bs = omega arith in
+    let e : c.args.at + c.run_at-size.result - c.args.at ≡ prefix_len isDigit bs = omega arith in
     record { few = simp length-take (omega arith); all = subst (λ n. EachDigit (take n bs)) (sym e) (run-passes isDigit bs) }

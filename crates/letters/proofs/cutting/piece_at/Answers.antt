@@ -7,10 +7,10 @@ pub returns-in-Gap : goal.returns-in-Gap
 returns-in-Gap c = piece-at c.args.text.now c.args.at Gap c.in-Gap.ensures
 
 pub returns-in-Word : goal.returns-in-Word
-returns-in-Word c = c.word-at.ensures ∙ piece-at c.args.text.now c.args.at Word c.in-Word.ensures
+returns-in-Word c = c.word_at.ensures ∙ piece-at c.args.text.now c.args.at Word c.in-Word.ensures
 
 pub returns-in-Number : goal.returns-in-Number
-returns-in-Number c = c.numeral-at.ensures ∙ piece-at c.args.text.now c.args.at Number c.in-Number.ensures
+returns-in-Number c = c.numeral_at.ensures ∙ piece-at c.args.text.now c.args.at Number c.in-Number.ensures
 
 pub returns-in-Sign : goal.returns-in-Sign
-returns-in-Sign c = c.sign-at.ensures ∙ piece-at c.args.text.now c.args.at Sign c.in-Sign.ensures
+returns-in-Sign c = c.sign_at.ensures ∙ piece-at c.args.text.now c.args.at Sign c.in-Sign.ensures

@@ -8,10 +8,10 @@ use Rattle.letters.proofs.cutting.sign_at.Goals as goal
 pub returns-in-Some : goal.returns-in-Some
 returns-in-Some c =
     ap (λ w. Part (tokenOf c.in-Some.kind c.args.at (length w) 0)) c.word.ensures
-    ∙ ap (signBy c.args.at) (sym c.in-Some.is ∙ c.sign-kind.ensures)
-    ∙ sign_at c.args.text.now c.args.at c.equals-at.result c.equals-at.ensures
+    ∙ ap (signBy c.args.at) (sym c.in-Some.is ∙ c.sign_kind.ensures)
+    ∙ sign_at c.args.text.now c.args.at c.equals_at.result c.equals_at.ensures
 
 pub returns-in-None : goal.returns-in-None
 returns-in-None c =
-    ap (signBy c.args.at) (sym c.in-None.is ∙ c.sign-kind.ensures)
-    ∙ sign_at c.args.text.now c.args.at c.equals-at.result c.equals-at.ensures
+    ap (signBy c.args.at) (sym c.in-None.is ∙ c.sign_kind.ensures)
+    ∙ sign_at c.args.text.now c.args.at c.equals_at.result c.equals_at.ensures

@@ -1,4 +1,4 @@
-use Rattle.std.proofs.Common.{◌≡◌, ℕ, ◌+◌, ◌++◌, sym, ap, ◌∙◌, ap₂, add-one, w32, rules}
+use Rattle.std.proofs.Common.{◌≡◌, ℕ, ◌+◌, ◌++◌, ◌∙◌, ap₂, add-one, w32, rules}
 use Rattle.std.proofs.lemmas.Int.{to_z-of_z}
 use Rattle.rows.specs.Meaning.{coef}
 use Rattle.rows.specs.declared.row.Row.{Row}
@@ -15,6 +15,6 @@ loop-j-init c = c.new-text.ensures.bytes
 
 pub loop-j-preserved : goal.loop-j-preserved
 loop-j-preserved c =
-    c.in-ok-push-term.ensures
+    c.in_ok-push_term.ensures
     ∙ ap₂ (λ a z. a ++ termText z c.loop-j.j) c.loop-j.invariant (to_z-of_z w32 c.coef.result (search rules) ∙ c.coef.ensures)
     ∙ terms-more c.args.row.now c.loop-j.j

@@ -1,4 +1,4 @@
-use Rattle.std.proofs.Common.{◌≡◌, ℕ, get_or, set, ℤ, pos, ◌-ℤ◌, neg_ℤ, refl, ap, ◌∙◌, arith, w32, to_z, of_z}
+use Rattle.std.proofs.Common.{◌≡◌, ℕ, get_or, set, ℤ, pos, ◌-ℤ◌, neg_ℤ, ap, ◌∙◌, arith, w32, to_z, of_z}
 use Rattle.std.proofs.lemmas.List.{length-set}
 use Rattle.std.proofs.lemmas.List.Edits.{fill_by_more}
 use Rattle.std.proofs.lemmas.List.FromFn.{fill_by_all}
@@ -7,8 +7,8 @@ use Rattle.rows.specs.Meaning.{coef}
 use Rattle.rows.proofs.Limiting.{coef-near}
 use Rattle.provers.proofs.begin.negated_coefs.Goals as goal
 
-pub overflow-sub-coefs : goal.overflow-sub-coefs
-overflow-sub-coefs c =
+pub overflow_sub-coefs : goal.overflow_sub-coefs
+overflow_sub-coefs c =
     let n = coef-near c.args.row.now c.loop-j.j in
     let e = c.coef.ensures in
     omega (arith, ints)

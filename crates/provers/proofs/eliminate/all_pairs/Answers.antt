@@ -1,4 +1,4 @@
-use Rattle.std.proofs.Common.{◌≡◌, sym, refl, ap, ◌∙◌}
+use Rattle.std.proofs.Common.{sym, refl, ap, ◌∙◌}
 use Rattle.provers.specs.Elimination.{pairsOf}
 use Rattle.provers.specs.WorkLists.{entries, answered}
 use Rattle.provers.proofs.Pushing.{turn_on, turn-off, turn_end}
@@ -7,14 +7,14 @@ use Rattle.provers.proofs.eliminate.all_pairs.Goals as goal
 pub loop-p-init : goal.loop-p-init
 loop-p-init c = refl
 
-pub returns-in-err-pairs-of : goal.returns-in-err-pairs-of
-returns-in-err-pairs-of c =
-    ap (λ o. answered o (entries c.pairs-of.new.into)) c.from-residual.ensures
-    ∙ sym (c.loop-p.invariant ∙ turn-off (pairsOf c.args.q c.args.rows.now) (entries c.loop-p.into) c.args.rows.now c.loop-p.p-index c.loop-p-test.true c.in-err-pairs-of.ensures)
+pub returns-in_err-pairs_of : goal.returns-in_err-pairs_of
+returns-in_err-pairs_of c =
+    ap (λ o. answered o (entries c.pairs_of.new.into)) c.from_residual.ensures
+    ∙ sym (c.loop-p.invariant ∙ turn-off (pairsOf c.args.q c.args.rows.now) (entries c.loop-p.into) c.args.rows.now c.loop-p.p-index c.loop-p-test.true c.in_err-pairs_of.ensures)
 
 pub loop-p-preserved : goal.loop-p-preserved
 loop-p-preserved c =
-    c.loop-p.invariant ∙ turn_on (pairsOf c.args.q c.args.rows.now) (entries c.loop-p.into) c.args.rows.now c.loop-p.p-index (entries c.pairs-of.new.into) c.loop-p-test.true c.in-ok-pairs-of.ensures
+    c.loop-p.invariant ∙ turn_on (pairsOf c.args.q c.args.rows.now) (entries c.loop-p.into) c.args.rows.now c.loop-p.p-index (entries c.pairs_of.new.into) c.loop-p-test.true c.in_ok-pairs_of.ensures
 
 pub returns : goal.returns
 returns c = sym (c.loop-p.invariant ∙ turn_end (pairsOf c.args.q c.args.rows.now) (entries c.loop-p.into) c.args.rows.now c.loop-p.p-index c.loop-p-test.false)

@@ -2,9 +2,9 @@ use Rattle.std.proofs.Common.{rules}
 use Rattle.provers.specs.Elimination.{pushAll}
 use Rattle.provers.proofs.eliminate.pair.Goals as goal
 
-pub returns-in-err-row : goal.returns-in-err-row
+pub returns-in_err-row : goal.returns-in_err-row
 unfolding pushAll
-returns-in-err-row c = let e = c.in-err-row.ensures in let f = c.from-residual.ensures in search (rules, e, f)
+returns-in_err-row c = let e = c.in_err-row.ensures in let f = c.from_residual.ensures in search (rules, e, f)
 
 pub returns-else-m-q-lt0 : goal.returns-else-m-q-lt0
 unfolding pushAll

@@ -1,4 +1,4 @@
-use Rattle.std.proofs.Common.{◌≡◌, ◌*◌, pos, ◌*ℤ◌, ap, ◌∙◌, arith, w32, w64}
+use Rattle.std.proofs.Common.{◌≡◌, ◌*◌, pos, ◌*ℤ◌, ap, ◌∙◌, arith, w32}
 use Rattle.std.proofs.lemmas.Int.{ints, to_z-of_z}
 use Rattle.ints.specs.Sums.{Near}
 use Rattle.ints.proofs.Products.{times-near}
@@ -14,8 +14,8 @@ right c =
     let f = c.ranges.y in
     (c.times-2.ensures ∙ ap (λ z. pos c.args.b *ℤ z) (to_z-of_z w32 c.args.y f), times-near c.args.b c.args.y 2147483648 (omega (arith, ints), omega (arith, ints)))
 
-pub overflow-add-result : goal.overflow-add-result
-overflow-add-result c = let l = left c in let r = right c in omega (arith, ints)
+pub overflow_add-result : goal.overflow_add-result
+overflow_add-result c = let l = left c in let r = right c in omega (arith, ints)
 
 pub returns : goal.returns
 returns c = let l = left c in let r = right c in omega (arith, ints)

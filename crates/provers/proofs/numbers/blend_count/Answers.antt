@@ -1,8 +1,8 @@
-use Rattle.std.proofs.Common.{◌≡◌, ◌*◌, ◌≤◌, ap₂, mul-le-mul, arith}
+use Rattle.std.proofs.Common.{◌*◌, ◌≤◌, ap₂, mul-le-mul, arith}
 use Rattle.provers.proofs.numbers.blend_count.Goals as goal
 
-pub overflow-add-result : goal.overflow-add-result
-overflow-add-result c =
+pub overflow_add-result : goal.overflow_add-result
+overflow_add-result c =
     let x : c.args.x ≤ 4294967295 = omega arith in
     let y : c.args.y ≤ 4294967295 = omega arith in
     let b : c.args.b ≤ 2147483647 = omega arith in

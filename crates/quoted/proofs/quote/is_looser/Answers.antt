@@ -6,10 +6,10 @@ use Rattle.quoted.specs.Quoting.{same_numbers}
 use Rattle.quoted.specs.Quotes.{same_test}
 use Rattle.quoted.proofs.quote.is_looser.Goals as goal
 use Rattle.quoted.proofs.quote.is_looser.Goals.{After-eq}
-use Rattle.std.proofs.lemmas.Bool.Decides.{Decides-eqb}
+use Rattle.std.proofs.lemmas.Bool.Decides.{Decides-int_eq}
 
 same : (c : After-eq) → same_numbers c.args.fact.now.coefs c.args.goal.now.coefs ≡ c.eq.result
-same c = ap₂ same_numbers (sym c.coefs.ensures) (sym c.coefs-2.ensures) ∙ same_test c.eq.result _ _ (slice_eq-Decides Decides-eqb _ _ _ c.eq.ensures)
+same c = ap₂ same_numbers (sym c.coefs.ensures) (sym c.coefs-2.ensures) ∙ same_test c.eq.result c.coefs.result c.coefs-2.result (slice_eq-Decides Decides-int_eq _ _ _ c.eq.ensures)
 
 pub returns-then-eq : goal.returns-then-eq
 returns-then-eq c =

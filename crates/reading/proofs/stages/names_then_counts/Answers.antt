@@ -29,18 +29,18 @@ resolve-requires c =
 pub returns-in-Some : goal.returns-in-Some
 returns-in-Some c = (c.in-Some.place, inl (refl, sym c.in-Some.ensures))
 
-pub returns-in-Some-count-fault : goal.returns-in-Some-count-fault
-returns-in-Some-count-fault c =
+pub returns-in-Some-count_fault : goal.returns-in-Some-count_fault
+returns-in-Some-count_fault c =
     let w = c.new-sheet.result in let n = c.new-sheet.ensures in let text = c.args.text.now in let ts = c.args.tokens.now in let ns = c.args.raw.now in let r = c.resolve in
     let same : Same w text ts ns = record { of-text = n.text; of-tokens = n.tokens; of-nodes = n.nodes } in
     let p = piles r.new.nodes r.new.conditions r.new.items in
     let m = same-made w text ts ns same p r.new.params r.new.table r.ensures in (
-      c.in-Some-count-fault.place,
+      c.in-Some-count_fault.place,
       inr (
         refl,
-        sym c.in-default.ensures,
+        sym c.in_default.ensures,
         sym (same-fault w text ts ns same _ p r.new.params r.new.table m
-            (c.in-Some-count-fault.ensures.value ∙ ap₂ (flatFault (length w.text.now) (rulesOf w)) c.as-slice.ensures c.as-slice-2.ensures)),
+            (c.in-Some-count_fault.ensures.value ∙ ap₂ (flatFault (length w.text.now) (rulesOf w)) c.as_slice.ensures c.as_slice-2.ensures)),
       ),
     )
 
@@ -50,7 +50,7 @@ returns-in-None c =
     let same : Same w text ts ns = record { of-text = n.text; of-tokens = n.tokens; of-nodes = n.nodes } in
     let p = piles r.new.nodes r.new.conditions r.new.items in
     let m = same-made w text ts ns same p r.new.params r.new.table r.ensures in record {
-      named = sym c.in-default.ensures;
-      counted = sym (same-fault w text ts ns same _ p r.new.params r.new.table m (c.in-None.ensures.value ∙ ap₂ (flatFault (length w.text.now) (rulesOf w)) c.as-slice.ensures c.as-slice-2.ensures));
+      named = sym c.in_default.ensures;
+      counted = sym (same-fault w text ts ns same _ p r.new.params r.new.table m (c.in-None.ensures.value ∙ ap₂ (flatFault (length w.text.now) (rulesOf w)) c.as_slice.ensures c.as_slice-2.ensures));
       made = m;
     }

@@ -1,4 +1,4 @@
-use Rattle.std.proofs.Common.{ℕ, ◌-◌, min, length, take, drop, ap, ◌∙◌}
+use Rattle.std.proofs.Common.{◌-◌, min, take, drop, ap, ◌∙◌}
 use Rattle.records.proofs.Stretches.{cut}
 use Rattle.records.proofs.reading.stretch_of.Goals as goal
 

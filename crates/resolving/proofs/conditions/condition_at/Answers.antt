@@ -13,9 +13,9 @@ use Rattle.resolving.proofs.Adding.{size}
 use Rattle.resolving.proofs.Listings.{side-place, formed}
 use Rattle.resolving.proofs.conditions.condition_at.Goals as goal
 
-pub side-at-next-requires : goal.side-at-next-requires
-side-at-next-requires c =
-    let w = c.args.sheet in let l = look_of (source_of w) in let n = length w.tokens.now in let f = c.side-at-sign in
+pub side_at-next-requires : goal.side_at-next-requires
+side_at-next-requires c =
+    let w = c.args.sheet in let l = look_of (source_of w) in let n = length w.tokens.now in let f = c.side_at-sign in
     let R = item_of w.text.now (scope_of w c.args.names.now []) in
     let e : f.result + 1 ≡ suc (sideAt n l c.args.at).next = omega (arith, f.ensures.next) in
     let k = size tables.item_of _ (entries c.args.items.now) (entries f.new.items) f.ensures.added in
@@ -28,7 +28,7 @@ side-at-next-requires c =
 
 pub returns : goal.returns
 returns c =
-    let w = c.args.sheet in let l = look_of (source_of w) in let n = length w.tokens.now in let f = c.side-at-sign in let g = c.side-at-next in
+    let w = c.args.sheet in let l = look_of (source_of w) in let n = length w.tokens.now in let f = c.side_at-sign in let g = c.side_at-next in
     let R = item_of w.text.now (scope_of w c.args.names.now []) in
     let e : f.result + 1 ≡ suc (sideAt n l c.args.at).next = omega (arith, f.ensures.next) in
     let k = size tables.item_of _ (entries c.args.items.now) (entries f.new.items) f.ensures.added in
@@ -40,7 +40,7 @@ returns c =
     subst (λ i. Added tables.item_of (map R (sideAt n l i).value) (entries f.new.items) (entries g.new.items)) e g.ensures.added in record {
       formed = formed w.text.now (scope_of w c.args.names.now []) (conditionAt n l c.args.at).value _ (entries c.args.items.now) (entries f.new.items) (entries g.new.items) f.ensures.added b
           (ap (λ (t : Token). t.place) c.token.ensures ∙ sym (side-place l n c.args.at))
-          (c.comparison-of.ensures ∙ ap (λ (t : Token). comparisonOf t.kind) (c.token-2.ensures ∙ ap l f.ensures.next))
+          (c.comparison_of.ensures ∙ ap (λ (t : Token). comparisonOf t.kind) (c.token-2.ensures ∙ ap l f.ensures.next))
           c.mark-from.ensures c.mark-middle.ensures c.mark-to.ensures;
       size = omega arith;
       room = g.ensures.room ∙ f.ensures.room;

@@ -23,8 +23,8 @@ use Rattle.resolving.proofs.conditions.conditions_at.Goals as goal
 use Rattle.resolving.proofs.conditions.conditions_at.Goals.{then-loop-rest-test+else-is, else-loop-rest-test}
 
 -- what the first condition leaves, given where it is read
-pub condition-at-first-requires : goal.condition-at-first-requires
-condition-at-first-requires c =
+pub condition_at-first-requires : goal.condition_at-first-requires
+condition_at-first-requires c =
     let w = c.args.sheet in let l = look_of (source_of w) in let n = length w.tokens.now in let i = c.min.result in
     let e = sym (clamped w.tokens.now (length w.text.now) n c.args.at) ∙ ap (λ j. (conditionsAt n l j).value) (sym c.min.ensures) ∙ conditions-list l n i in
     let k = ap conditionsWeight e ∙ sum_by-cons conditionWeight (conditionAt n l i).value (Stretching.conditions n l n (conditionAt n l i).next) in record {
@@ -35,7 +35,7 @@ condition-at-first-requires c =
 
 pub loop-rest-init : goal.loop-rest-init
 loop-rest-init c =
-    let w = c.args.sheet in let l = look_of (source_of w) in let n = length w.tokens.now in let i = c.min.result in let f = c.condition-at-first in
+    let w = c.args.sheet in let l = look_of (source_of w) in let n = length w.tokens.now in let i = c.min.result in let f = c.condition_at-first in
     let e = sym (clamped w.tokens.now (length w.text.now) n c.args.at) ∙ ap (λ j. (conditionsAt n l j).value) (sym c.min.ensures) ∙ conditions-list l n i ∙ ap (λ j. (conditionAt n l i).value ∷ Stretching.conditions n l n j) (sym f.ensures.next) in
     let k = ap conditionsWeight e ∙ sum_by-cons conditionWeight (conditionAt n l i).value (Stretching.conditions n l n f.result.next) in
     let p = pushed (entries c.args.conditions.now) _ f.result.condition c.push.result (room c.args.conditions.now) c.push.ensures.value (omega (arith, c.requires.conditions)) c.push.ensures.held in
@@ -49,8 +49,8 @@ loop-rest-init c =
       f.ensures.near,
     )
 
-pub condition-at-one-requires : goal.condition-at-one-requires
-condition-at-one-requires c =
+pub condition_at-one-requires : goal.condition_at-one-requires
+condition_at-one-requires c =
     let w = c.args.sheet in let l = look_of (source_of w) in let n = length w.tokens.now in
     let comma = sym (c.if-is.ensures ∙ ap (is_a Comma) c.token.ensures) in
     let s = comma-stands w.tokens.now (length w.text.now) c.loop-rest.next comma in
@@ -63,7 +63,7 @@ condition-at-one-requires c =
 
 pub loop-rest-preserved : goal.loop-rest-preserved
 loop-rest-preserved c =
-    let w = c.args.sheet in let l = look_of (source_of w) in let n = length w.tokens.now in let f = c.condition-at-one in let i = c.loop-rest.invariant in let q = c.push-in-loop-rest in
+    let w = c.args.sheet in let l = look_of (source_of w) in let n = length w.tokens.now in let f = c.condition_at-one in let i = c.loop-rest.invariant in let q = c.push-in-loop-rest in
     let F = conditionOf w.text.now (scope_of w c.args.names.now []) in
     let comma = sym (c.if-is.ensures ∙ ap (is_a Comma) c.token.ensures) in
     let left = rest_more l (is_a Comma) (λ (t : Token) (j : ℕ). conditionAt n l j) c.loop-rest.rest c.loop-rest.next c.loop-rest-test.true comma
@@ -82,7 +82,7 @@ loop-rest-preserved c =
 
 pub returns : goal.returns
 returns c =
-    let w = c.args.sheet in let l = look_of (source_of w) in let n = length w.tokens.now in let i = c.min.result in let f = c.condition-at-first in let inv = c.loop-rest.invariant in
+    let w = c.args.sheet in let l = look_of (source_of w) in let n = length w.tokens.now in let i = c.min.result in let f = c.condition_at-first in let inv = c.loop-rest.invariant in
     let F = conditionOf w.text.now (scope_of w c.args.names.now []) in
     let e = sym (clamped w.tokens.now (length w.text.now) n c.args.at) ∙ ap (λ j. (conditionsAt n l j).value) (sym c.min.ensures) ∙ conditions-list l n i ∙ ap (λ j. (conditionAt n l i).value ∷ Stretching.conditions n l n j) (sym f.ensures.next) in
     let k = ap conditionsWeight e ∙ sum_by-cons conditionWeight (conditionAt n l i).value (Stretching.conditions n l n f.result.next) in

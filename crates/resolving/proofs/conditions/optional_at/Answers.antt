@@ -13,13 +13,13 @@ use Rattle.resolving.specs.Making.{Listing}
 use Rattle.resolving.proofs.Listings.{listing_none}
 use Rattle.resolving.proofs.conditions.optional_at.Goals as goal
 
-pub overflow-add-at : goal.overflow-add-at
-overflow-add-at c =
+pub overflow_add-at : goal.overflow_add-at
+overflow_add-at c =
     let s = stands c.args.keyword c.args.sheet.tokens.now (length c.args.sheet.text.now) c.args.at c.requires.keyword (sym (c.if-is.ensures ∙ ap (is_a c.args.keyword) c.token.ensures)) in
     omega (arith, c.args.sheet.few)
 
-pub conditions-at-requires : goal.conditions-at-requires
-conditions-at-requires c =
+pub conditions_at-requires : goal.conditions_at-requires
+conditions_at-requires c =
     let w = c.args.sheet in let l = look_of (source_of w) in let n = length w.tokens.now in
     let e : (conditionsAt n l (c.args.at + 1)).value ≡ optionalAt n l c.args.keyword c.args.at =
     ap (λ j. (conditionsAt n l j).value) (let s : c.args.at + 1 ≡ suc c.args.at = omega arith in s) ∙ ap (λ b. cond b (conditionsAt n l (suc c.args.at)).value []) (c.if-is.ensures ∙ ap (is_a c.args.keyword) c.token.ensures) in
@@ -34,7 +34,7 @@ returns-then-is c =
     let w = c.args.sheet in let l = look_of (source_of w) in let n = length w.tokens.now in
     let e : (conditionsAt n l (c.args.at + 1)).value ≡ optionalAt n l c.args.keyword c.args.at =
     ap (λ j. (conditionsAt n l j).value) (let s : c.args.at + 1 ≡ suc c.args.at = omega arith in s) ∙ ap (λ b. cond b (conditionsAt n l (suc c.args.at)).value []) (c.if-is.ensures ∙ ap (is_a c.args.keyword) c.token.ensures) in
-    let k = ap conditionsWeight e in let f = c.conditions-at in record {
+    let k = ap conditionsWeight e in let f = c.conditions_at in record {
       listing = subst (λ xs. Listing (conditionsOf w.text.now (scope_of w c.args.names.now []) xs) (entries c.args.conditions.now) (entries f.new.conditions) (entries c.args.items.now) (entries f.new.items)) e f.ensures.listing;
       stretch = f.ensures.stretch;
       size = omega (arith, f.ensures.size);

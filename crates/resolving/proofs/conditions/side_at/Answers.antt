@@ -24,30 +24,30 @@ pub loop-rest-init : goal.loop-rest-init
 loop-rest-init c =
     let w = c.args.sheet in let l = look_of (source_of w) in let n = length w.tokens.now in
     let s = ap length (side-list l n c.args.at) in
-    let e = ap (λ i. length (items l n i)) c.item-at-first.ensures.next in
-    let p = pushed (entries c.args.items.now) _ c.item-at-first.result.item c.push.result (room c.args.items.now) c.push.ensures.value (omega (arith, c.requires.room)) c.push.ensures.held in
-    let k = ap length p ∙ length_push (entries c.args.items.now) c.item-at-first.result.item in (
+    let e = ap (λ i. length (items l n i)) c.item_at-first.ensures.next in
+    let p = pushed (entries c.args.items.now) _ c.item_at-first.result.item c.push.result (room c.args.items.now) c.push.ensures.value (omega (arith, c.requires.room)) c.push.ensures.held in
+    let k = ap length p ∙ length_push (entries c.args.items.now) c.item_at-first.result.item in (
       begun tables.item_of _ (entries c.push.new.self),
       omega (arith, c.requires.room, c.push.ensures.room),
       refl,
       refl,
-      omega (arith, c.item-at-first.ensures.near),
+      omega (arith, c.item_at-first.ensures.near),
     )
 
-pub item-at-item-requires : goal.item-at-item-requires
-item-at-item-requires c =
-    let s = sign-stands c.args.sheet.tokens.now (length c.args.sheet.text.now) c.loop-rest.next (sym c.if-is-sign.ensures) in record {
+pub item_at-item-requires : goal.item_at-item-requires
+item_at-item-requires c =
+    let s = sign-stands c.args.sheet.tokens.now (length c.args.sheet.text.now) c.loop-rest.next (sym c.if-is_sign.ensures) in record {
       fit = c.requires.fit;
       near = omega (arith, c.args.sheet.few);
     }
 
 pub loop-rest-preserved : goal.loop-rest-preserved
 loop-rest-preserved c =
-    let w = c.args.sheet in let l = look_of (source_of w) in let f = c.item-at-item in let i = c.loop-rest.invariant in let m = is_a Minus (l c.loop-rest.next) in
+    let w = c.args.sheet in let l = look_of (source_of w) in let f = c.item_at-item in let i = c.loop-rest.invariant in let m = is_a Minus (l c.loop-rest.next) in
     let R = item_of w.text.now (scope_of w c.args.names.now []) in let one = λ (t : Token) (j : ℕ). item_at l (is_a Minus t) j in
     let is_m : c.is-minus.result ≡ m = c.is-minus.ensures ∙ ap (is_a Minus) c.token.ensures in
-    let s = sign-stands w.tokens.now (length w.text.now) c.loop-rest.next (sym c.if-is-sign.ensures) in
-    let more = rest_more l sumSign one c.loop-rest.rest c.loop-rest.next c.loop-rest-test.true (sym c.if-is-sign.ensures) in
+    let s = sign-stands w.tokens.now (length w.text.now) c.loop-rest.next (sym c.if-is_sign.ensures) in
+    let more = rest_more l sumSign one c.loop-rest.rest c.loop-rest.next c.loop-rest-test.true (sym c.if-is_sign.ensures) in
     let next : f.result.next ≡ (item_at l m (c.loop-rest.next + 1)).next = f.ensures.next ∙ ap (λ b. (item_at l b (c.loop-rest.next + 1)).next) is_m in
     let left = more ∙ ap (λ j. (item_at l m (c.loop-rest.next + 1)).value ∷ items l (c.loop-rest.rest - 1) j) (sym next) in
     let q = c.push-in-loop-rest in
@@ -56,29 +56,29 @@ loop-rest-preserved c =
       turn tables.item_of _ _ (entries c.push.new.self) (entries c.loop-rest.items) _ f.result.item (R (item_at l m (c.loop-rest.next + 1)).value) _ i.0 (ap (map R) left) (f.ensures.item ∙ ap (λ b. R (item_at l b (c.loop-rest.next + 1)).value) is_m) p,
       omega (arith, ap length left, i.1, q.ensures.room),
       q.ensures.room ∙ i.2,
-      i.3 ∙ end_more l sumSign one c.loop-rest.rest c.loop-rest.next c.loop-rest-test.true (sym c.if-is-sign.ensures) ∙ ap (itemsEnd l (c.loop-rest.rest - 1)) (sym next),
+      i.3 ∙ end_more l sumSign one c.loop-rest.rest c.loop-rest.next c.loop-rest-test.true (sym c.if-is_sign.ensures) ∙ ap (itemsEnd l (c.loop-rest.rest - 1)) (sym next),
       omega (arith, f.ensures.near, w.few),
     )
 
-pub returns-else-is-sign : goal.returns-else-is-sign
-returns-else-is-sign c =
-    let w = c.args.sheet in let l = look_of (source_of w) in let n = length w.tokens.now in let f = c.item-at-first in let i = c.loop-rest.invariant in
+pub returns-else-is_sign : goal.returns-else-is_sign
+returns-else-is_sign c =
+    let w = c.args.sheet in let l = look_of (source_of w) in let n = length w.tokens.now in let f = c.item_at-first in let i = c.loop-rest.invariant in
     let R = item_of w.text.now (scope_of w c.args.names.now []) in
     let s = ap length (side-list l n c.args.at) in
     let e = ap (λ i. length (items l n i)) f.ensures.next in
     let p = pushed (entries c.args.items.now) _ f.result.item c.push.result (room c.args.items.now) c.push.ensures.value (omega (arith, c.requires.room)) c.push.ensures.held in
     let one = λ (t : Token) (j : ℕ). item_at l (is_a Minus t) j in record {
       added = onto tables.item_of (R (item_at l false c.args.at).value) _ _ (entries c.args.items.now) _ _ f.result.item f.ensures.item p
-          (whole tables.item_of _ _ _ _ i.0 (ap (map R) (rest-none l sumSign one c.loop-rest.rest c.loop-rest.next (sym c.if-is-sign.ensures))))
+          (whole tables.item_of _ _ _ _ i.0 (ap (map R) (rest-none l sumSign one c.loop-rest.rest c.loop-rest.next (sym c.if-is_sign.ensures))))
           (ap (map R) (side-list l n c.args.at ∙ ap (λ j. (item_at l false c.args.at).value ∷ items l n j) (sym f.ensures.next)));
       room = i.2 ∙ c.push.ensures.room;
-      next = sym (side-end l n c.args.at ∙ ap (itemsEnd l n) (sym f.ensures.next) ∙ i.3 ∙ end_none l sumSign one c.loop-rest.rest c.loop-rest.next (sym c.if-is-sign.ensures));
+      next = sym (side-end l n c.args.at ∙ ap (itemsEnd l n) (sym f.ensures.next) ∙ i.3 ∙ end_none l sumSign one c.loop-rest.rest c.loop-rest.next (sym c.if-is_sign.ensures));
       near = i.4;
     }
 
 pub returns-after-loop-rest : goal.returns-after-loop-rest
 returns-after-loop-rest c =
-    let w = c.args.sheet in let l = look_of (source_of w) in let n = length w.tokens.now in let f = c.item-at-first in let i = c.loop-rest.invariant in
+    let w = c.args.sheet in let l = look_of (source_of w) in let n = length w.tokens.now in let f = c.item_at-first in let i = c.loop-rest.invariant in
     let R = item_of w.text.now (scope_of w c.args.names.now []) in
     let s = ap length (side-list l n c.args.at) in
     let e = ap (λ i. length (items l n i)) f.ensures.next in

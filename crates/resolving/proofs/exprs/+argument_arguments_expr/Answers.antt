@@ -55,7 +55,7 @@ expr-returns-in-Name t c =
     let is : rawAt s c.args.top ns at ≡ Raw.name (look_of s c.in-Name.t) = raw-is s c.args.top ns at _ (ap Some (sym c.in-Name.is) ∙ c.in-Some.ensures.read) in
     let A = c.add-in-Name in
     record {
-      made = made-is S (scope_of w xs ls) _ _ _ _ _ _ (name-made S (scope_of w xs ls) (look_of s c.in-Name.t) _ _ (piles c.args.nodes.now c.args.conditions.now c.args.items.now) _ c.place-place-in-Name.ensures (c.slot-slot.ensures ∙ ap₂ (λ zs (k : Token). slot_of (slotIn w.text.now (tokensOf w zs) k)) c.as-slice.ensures c.token.ensures) A.ensures.held A.ensures.room) is A.ensures.position;
+      made = made-is S (scope_of w xs ls) _ _ _ _ _ _ (name-made S (scope_of w xs ls) (look_of s c.in-Name.t) _ _ (piles c.args.nodes.now c.args.conditions.now c.args.items.now) _ c.place-place-in-Name.ensures (c.slot-slot.ensures ∙ ap₂ (λ zs (k : Token). slot_of (slotIn w.text.now (tokensOf w zs) k)) c.as_slice.ensures c.token.ensures) A.ensures.held A.ensures.room) is A.ensures.position;
       names = (refl, refl);
     }
 
@@ -92,7 +92,7 @@ expr-returns-in-Calc t c =
     let is : rawAt s c.args.top ns at ≡ Raw.calc (look_of s c.in-Calc.t) (rawAt s at ns c.in-Calc.a) (rawAt s at ns c.in-Calc.b) = raw-is s c.args.top ns at _ (ap Some (sym c.in-Calc.is) ∙ c.in-Some.ensures.read) in
     let A = c.add-in-Calc in
     record {
-      made = made-is S (scope_of w xs ls) _ _ _ _ _ _ (calc-made S (scope_of w xs ls) (look_of s c.in-Calc.t) _ _ _ _ _ _ (piles c.args.nodes.now c.args.conditions.now c.args.items.now) (piles c.expr-left.new.nodes c.expr-left.new.conditions c.expr-left.new.items) (piles c.expr-right.new.nodes c.expr-right.new.conditions c.expr-right.new.items) _ c.expr-left.ensures.made (made_in S w _ xs ls (rawAt s at ns c.in-Calc.b) _ _ _ c.expr-right.ensures.made c.expr-left.ensures.names.0) c.place-place-in-Calc.ensures (c.operator-of-operator.ensures ∙ ap (λ (k : Token). operatorOf k.kind) c.token-in-Calc.ensures) A.ensures.held A.ensures.room) is A.ensures.position;
+      made = made-is S (scope_of w xs ls) _ _ _ _ _ _ (calc-made S (scope_of w xs ls) (look_of s c.in-Calc.t) _ _ _ _ _ _ (piles c.args.nodes.now c.args.conditions.now c.args.items.now) (piles c.expr-left.new.nodes c.expr-left.new.conditions c.expr-left.new.items) (piles c.expr-right.new.nodes c.expr-right.new.conditions c.expr-right.new.items) _ c.expr-left.ensures.made (made_in S w _ xs ls (rawAt s at ns c.in-Calc.b) _ _ _ c.expr-right.ensures.made c.expr-left.ensures.names.0) c.place-place-in-Calc.ensures (c.operator_of-operator.ensures ∙ ap (λ (k : Token). operatorOf k.kind) c.token-in-Calc.ensures) A.ensures.held A.ensures.room) is A.ensures.position;
       names = (c.expr-right.ensures.names.0 ∙ c.expr-left.ensures.names.0, c.expr-right.ensures.names.1 ∙ c.expr-left.ensures.names.1);
     }
 
@@ -179,7 +179,7 @@ expr-returns-in-Test t c =
     let is : rawAt s c.args.top ns at ≡ Raw.test (look_of s c.in-Test.t) (look_of s c.in-Test.c) (rawAt s at ns c.in-Test.a) (rawAt s at ns c.in-Test.b) (rawAt s at ns c.in-Test.d) (rawAt s at ns c.in-Test.e) = raw-is s c.args.top ns at _ (ap Some (sym c.in-Test.is) ∙ c.in-Some.ensures.read) in
     let A = c.add-in-Test in
     record {
-      made = made-is S (scope_of w xs ls) _ _ _ _ _ _ (test-made S (scope_of w xs ls) (look_of s c.in-Test.t) (look_of s c.in-Test.c) _ _ _ _ _ _ _ _ _ _ (piles c.args.nodes.now c.args.conditions.now c.args.items.now) (piles c.expr-left-in-Test.new.nodes c.expr-left-in-Test.new.conditions c.expr-left-in-Test.new.items) (piles c.expr-right-in-Test.new.nodes c.expr-right-in-Test.new.conditions c.expr-right-in-Test.new.items) (piles c.expr-met.new.nodes c.expr-met.new.conditions c.expr-met.new.items) (piles c.expr-unmet.new.nodes c.expr-unmet.new.conditions c.expr-unmet.new.items) _ c.expr-left-in-Test.ensures.made (made_in S w _ xs ls (rawAt s at ns c.in-Test.b) _ _ _ c.expr-right-in-Test.ensures.made c.expr-left-in-Test.ensures.names.0) (made_in S w _ xs ls (rawAt s at ns c.in-Test.d) _ _ _ c.expr-met.ensures.made (c.expr-right-in-Test.ensures.names.0 ∙ c.expr-left-in-Test.ensures.names.0)) (made_in S w _ xs ls (rawAt s at ns c.in-Test.e) _ _ _ c.expr-unmet.ensures.made (c.expr-met.ensures.names.0 ∙ c.expr-right-in-Test.ensures.names.0 ∙ c.expr-left-in-Test.ensures.names.0)) c.place-place-in-Test.ensures (c.comparison-of-comparison.ensures ∙ ap (λ (k : Token). comparisonOf k.kind) c.token-in-Test.ensures) A.ensures.held A.ensures.room) is A.ensures.position;
+      made = made-is S (scope_of w xs ls) _ _ _ _ _ _ (test-made S (scope_of w xs ls) (look_of s c.in-Test.t) (look_of s c.in-Test.c) _ _ _ _ _ _ _ _ _ _ (piles c.args.nodes.now c.args.conditions.now c.args.items.now) (piles c.expr-left-in-Test.new.nodes c.expr-left-in-Test.new.conditions c.expr-left-in-Test.new.items) (piles c.expr-right-in-Test.new.nodes c.expr-right-in-Test.new.conditions c.expr-right-in-Test.new.items) (piles c.expr-met.new.nodes c.expr-met.new.conditions c.expr-met.new.items) (piles c.expr-unmet.new.nodes c.expr-unmet.new.conditions c.expr-unmet.new.items) _ c.expr-left-in-Test.ensures.made (made_in S w _ xs ls (rawAt s at ns c.in-Test.b) _ _ _ c.expr-right-in-Test.ensures.made c.expr-left-in-Test.ensures.names.0) (made_in S w _ xs ls (rawAt s at ns c.in-Test.d) _ _ _ c.expr-met.ensures.made (c.expr-right-in-Test.ensures.names.0 ∙ c.expr-left-in-Test.ensures.names.0)) (made_in S w _ xs ls (rawAt s at ns c.in-Test.e) _ _ _ c.expr-unmet.ensures.made (c.expr-met.ensures.names.0 ∙ c.expr-right-in-Test.ensures.names.0 ∙ c.expr-left-in-Test.ensures.names.0)) c.place-place-in-Test.ensures (c.comparison_of-comparison.ensures ∙ ap (λ (k : Token). comparisonOf k.kind) c.token-in-Test.ensures) A.ensures.held A.ensures.room) is A.ensures.position;
       names = (c.expr-unmet.ensures.names.0 ∙ c.expr-met.ensures.names.0 ∙ c.expr-right-in-Test.ensures.names.0 ∙ c.expr-left-in-Test.ensures.names.0, c.expr-unmet.ensures.names.1 ∙ c.expr-met.ensures.names.1 ∙ c.expr-right-in-Test.ensures.names.1 ∙ c.expr-left-in-Test.ensures.names.1);
     }
 
@@ -235,16 +235,16 @@ pub expr-add-requires : goal.expr-add-requires
 unfolding exprWeight
 expr-add-requires t c =
     let w = c.args.context.sheet in let s = source_of w in let ns = w.nodes.now in
-    let R0 = roomy-is _ _ (piles c.args.nodes.now c.args.conditions.now c.args.items.now) c.requires.roomy (raw-is s c.args.top ns c.args.at None c.in-default.ensures.read) in
+    let R0 = roomy-is _ _ (piles c.args.nodes.now c.args.conditions.now c.args.items.now) c.requires.roomy (raw-is s c.args.top ns c.args.at None c.in_default.ensures.read) in
     let r = R0.nodes in omega arith
 
-pub expr-returns-in-default : goal.expr-returns-in-default
-expr-returns-in-default t c =
+pub expr-returns-in_default : goal.expr-returns-in_default
+expr-returns-in_default t c =
     let w = c.args.context.sheet in let s = source_of w in let ns = w.nodes.now in let A = c.add in
     record {
       made = made-is (sheetOf w) (scope_of w (entries c.args.names.now) c.args.context.lists.now) _ _ _ _ _ _
           (num-made (sheetOf w) (scope_of w (entries c.args.names.now) c.args.context.lists.now) nothing 0 0 (piles c.args.nodes.now c.args.conditions.now c.args.items.now) _ refl refl A.ensures.held A.ensures.room)
-          (raw-is s c.args.top ns c.args.at None c.in-default.ensures.read) A.ensures.position;
+          (raw-is s c.args.top ns c.args.at None c.in_default.ensures.read) A.ensures.position;
       names = (refl, refl);
     }
 
@@ -362,14 +362,14 @@ expr-returns-in-Bind t c =
     let n = entries m.new.names in
     let fits : length n < room m.new.names = omega (arith, c.requires.names, c.in-Some.ensures.below, ap length m.ensures.names.0, m.ensures.names.1) in
     let e = pushed n _ c.in-Bind.n c.push.result (room m.new.names) c.push.ensures.value fits c.push.ensures.held in
-    let kept = c.fall-back.ensures.held ∙ ap (take c.mark-mark.result) (b.ensures.names.0 ∙ e) ∙ take_at n (c.in-Bind.n ∷ []) c.mark-mark.result (sym c.mark-mark.ensures) in
+    let kept = c.fall_back.ensures.held ∙ ap (take c.mark-mark.result) (b.ensures.names.0 ∙ e) ∙ take_at n (c.in-Bind.n ∷ []) c.mark-mark.result (sym c.mark-mark.ensures) in
     record {
       made = made-is S (scope_of w xs ls) _ _ _ _ _ _
           (bind-made S (scope_of w xs ls) (look_of s c.in-Bind.t) (look_of s c.in-Bind.n) _ _ _ _ _ (piles c.args.nodes.now c.args.conditions.now c.args.items.now) (piles c.expr-bound.new.nodes c.expr-bound.new.conditions c.expr-bound.new.items) (piles c.expr-body.new.nodes c.expr-body.new.conditions c.expr-body.new.items) _ m.ensures.made
           (subst (λ (Δ : Scope). ExprMade S Δ (rawAt s at ns c.in-Bind.b) b.result (piles c.expr-bound.new.nodes c.expr-bound.new.conditions c.expr-bound.new.items) (piles c.expr-body.new.nodes c.expr-body.new.conditions c.expr-body.new.items)) (name-pushed w n _ ls c.in-Bind.n e ∙ ap (λ zs. naming (scope_of w zs ls) (look_of s c.in-Bind.n)) m.ensures.names.0) b.ensures.made)
           c.place-place-in-Bind.ensures A.ensures.held A.ensures.room)
           is A.ensures.position;
-      names = (kept ∙ m.ensures.names.0, c.fall-back.ensures.room ∙ b.ensures.names.1 ∙ c.push.ensures.room ∙ m.ensures.names.1);
+      names = (kept ∙ m.ensures.names.0, c.fall_back.ensures.room ∙ b.ensures.names.1 ∙ c.push.ensures.room ∙ m.ensures.names.1);
     }
 
 pub expr-expr-claimed-requires : goal.expr-expr-claimed-requires
@@ -381,9 +381,9 @@ expr-expr-claimed-requires t c =
     let R0 = roomy-is _ _ (piles c.args.nodes.now c.args.conditions.now c.args.items.now) c.requires.roomy is in
     (omega (arith, c.decreases, c.in-Some.ensures.below), (c.requires.fit, (c.requires.rules, (omega (arith, c.requires.names, c.in-Some.ensures.below), roomy-less R0 (omega arith)))))
 
-pub expr-conditions-at-listed-requires : goal.expr-conditions-at-listed-requires
+pub expr-conditions_at-listed-requires : goal.expr-conditions_at-listed-requires
 unfolding exprWeight
-expr-conditions-at-listed-requires t c =
+expr-conditions_at-listed-requires t c =
     let w = c.args.context.sheet in let s = source_of w in let ns = w.nodes.now in let S = sheetOf w in let at = c.args.at in let ls = c.args.context.lists.now in let xs = entries c.args.names.now in
     let cs = (conditionsAt (length w.tokens.now) (look_of s) c.in-Claim.c).value in
     let is : rawAt s c.args.top ns at ≡ Raw.claim (look_of s c.in-Claim.t) (rawAt s at ns c.in-Claim.a) cs = raw-is s c.args.top ns at _ (ap Some (sym c.in-Claim.is) ∙ c.in-Some.ensures.read) in
@@ -406,9 +406,9 @@ pub expr-returns-in-Claim : goal.expr-returns-in-Claim
 expr-returns-in-Claim t c =
     let w = c.args.context.sheet in let s = source_of w in let ns = w.nodes.now in let S = sheetOf w in let at = c.args.at in let ls = c.args.context.lists.now in let xs = entries c.args.names.now in
     let cs = (conditionsAt (length w.tokens.now) (look_of s) c.in-Claim.c).value in
-    let is : rawAt s c.args.top ns at ≡ Raw.claim (look_of s c.in-Claim.t) (rawAt s at ns c.in-Claim.a) cs = raw-is s c.args.top ns at _ (ap Some (sym c.in-Claim.is) ∙ c.in-Some.ensures.read) in let A = c.add-in-Claim in let m = c.expr-claimed in let l = c.conditions-at-listed in
+    let is : rawAt s c.args.top ns at ≡ Raw.claim (look_of s c.in-Claim.t) (rawAt s at ns c.in-Claim.a) cs = raw-is s c.args.top ns at _ (ap Some (sym c.in-Claim.is) ∙ c.in-Some.ensures.read) in let A = c.add-in-Claim in let m = c.expr-claimed in let l = c.conditions_at-listed in
     let F = conditionsOf w.text.now (scope_of w xs ls) cs in
-    let listing = subst (λ zs. Listing (conditionsOf w.text.now (scope_of w zs []) cs) (entries m.new.conditions) (entries l.new.conditions) (entries m.new.items) (entries l.new.items)) (c.as-slice-in-Claim.ensures ∙ m.ensures.names.0) l.ensures.listing in
+    let listing = subst (λ zs. Listing (conditionsOf w.text.now (scope_of w zs []) cs) (entries m.new.conditions) (entries l.new.conditions) (entries m.new.items) (entries l.new.items)) (c.as_slice-in-Claim.ensures ∙ m.ensures.names.0) l.ensures.listing in
     record {
       made = made-is S (scope_of w xs ls) _ _ _ _ _ _
           (claim-made S (scope_of w xs ls) (look_of s c.in-Claim.t) (rawAt s at ns c.in-Claim.a) cs _ _ _ _ (piles c.args.nodes.now c.args.conditions.now c.args.items.now) (piles c.expr-claimed.new.nodes c.expr-claimed.new.conditions c.expr-claimed.new.items) (piles m.new.nodes l.new.conditions l.new.items) _ m.ensures.made

@@ -16,9 +16,9 @@ pub loop-step-preserved : goal.loop-step-preserved
 loop-step-preserved c =
     let w = c.args.sheet in let l = look_of (source_of w) in let i = c.loop-step.invariant in let q = c.push in
     let n = ap length c.in-Some.ensures in
-    let p = pushed (entries c.loop-step.params) _ c.sort-of.result q.result (room c.loop-step.params) q.ensures.value (omega (arith, i.1)) q.ensures.held in
-    let k = ap length p ∙ length_push (entries c.loop-step.params) c.sort-of.result in (
-      turn tables.paramOf _ _ (entries c.args.params.now) (entries c.loop-step.params) _ c.sort-of.result (paramOf (written l c.in-Some.step.param)) _ i.0 (ap (map paramOf) c.in-Some.ensures) c.sort-of.ensures p,
+    let p = pushed (entries c.loop-step.params) _ c.sort_of.result q.result (room c.loop-step.params) q.ensures.value (omega (arith, i.1)) q.ensures.held in
+    let k = ap length p ∙ length_push (entries c.loop-step.params) c.sort_of.result in (
+      turn tables.paramOf _ _ (entries c.args.params.now) (entries c.loop-step.params) _ c.sort_of.result (paramOf (written l c.in-Some.step.param)) _ i.0 (ap (map paramOf) c.in-Some.ensures) c.sort_of.ensures p,
       omega (arith, i.1, q.ensures.room),
       q.ensures.room ∙ i.2,
     )
@@ -26,7 +26,7 @@ loop-step-preserved c =
 pub returns : goal.returns
 returns c =
     let i = c.loop-step.invariant in record {
-      added = whole tables.paramOf _ _ _ _ i.0 (ap (map paramOf) c.in-default.ensures);
+      added = whole tables.paramOf _ _ _ _ i.0 (ap (map paramOf) c.in_default.ensures);
       stretch = (c.mark-from.ensures, c.mark.ensures);
       room = i.2;
     }

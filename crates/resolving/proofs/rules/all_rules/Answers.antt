@@ -13,7 +13,7 @@ use Rattle.resolving.specs.Ruling.{ruleBy, RulesMade}
 use Rattle.resolving.proofs.Adding.{pushed}
 use Rattle.resolving.proofs.Ruling.{rules-none, rules-turn, rules-in, rules-zero, rules-next, rules-same, weight-front}
 use Rattle.resolving.proofs.rules.all_rules.Goals as goal
-use Rattle.resolving.proofs.rules.all_rules.Goals.{in-Some, in-default}
+use Rattle.resolving.proofs.rules.all_rules.Goals.{in-Some, in_default}
 
 pub loop-at-init : goal.loop-at-init
 loop-at-init c =
@@ -69,8 +69,8 @@ loop-at-preserved c =
             ap room v.names-is ∙ r.ensures.room.0 ∙ i.6,
             ap room v.lists-is ∙ r.ensures.room.1 ∙ i.7,
           )
-      | in-default v ↦ (
-        rules-in (sheetOf w) _ _ _ _ _ _ _ _ _ _ _ _ i.0 (rules-same s ns at (rule-not s ns at v.in-default.ensures)) v.nodes-is v.conditions-is v.items-is v.params-is v.table-is,
+      | in_default v ↦ (
+        rules-in (sheetOf w) _ _ _ _ _ _ _ _ _ _ _ _ i.0 (rules-same s ns at (rule-not s ns at v.in_default.ensures)) v.nodes-is v.conditions-is v.items-is v.params-is v.table-is,
         ap room v.nodes-is ∙ i.1,
         ap room v.conditions-is ∙ i.2,
         ap room v.items-is ∙ i.3,

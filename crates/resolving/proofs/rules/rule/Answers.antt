@@ -27,28 +27,28 @@ pub declare-requires : goal.declare-requires
 declare-requires c =
     let h = c.head.result in
     let n = length-left (look_of (source_of c.args.sheet)) h.at h.rest h.here in record {
-      names = omega (arith, h.within, ap length c.fall-back.ensures.held, c.fall-back.ensures.room, c.requires.names);
-      lists = omega (arith, h.within, ap length c.fall-back-2.ensures.held, c.fall-back-2.ensures.room, c.requires.lists);
+      names = omega (arith, h.within, ap length c.fall_back.ensures.held, c.fall_back.ensures.room, c.requires.names);
+      lists = omega (arith, h.within, ap length c.fall_back-2.ensures.held, c.fall_back-2.ensures.room, c.requires.lists);
     }
 
-pub params-at-params-requires : goal.params-at-params-requires
-params-at-params-requires c = let e = ap length c.head-2.ensures in omega (arith, c.requires.params)
+pub params_at-params-requires : goal.params_at-params-requires
+params_at-params-requires c = let e = ap length c.head-2.ensures in omega (arith, c.requires.params)
 
-pub optional-at-needs-requires : goal.optional-at-needs-requires
+pub optional_at-needs-requires : goal.optional_at-needs-requires
 unfolding sameKind
-optional-at-needs-requires c =
+optional_at-needs-requires c =
     let a = c.requires.roomy.conditions in let b = c.requires.roomy.items in
     record { fit = c.requires.fit; keyword = refl; conditions = omega arith; items = omega arith }
 
-pub optional-at-gives-requires : goal.optional-at-gives-requires
+pub optional_at-gives-requires : goal.optional_at-gives-requires
 unfolding sameKind
-optional-at-gives-requires c =
+optional_at-gives-requires c =
     let w = c.args.sheet in let s = source_of w in let l = look_of s in let n = length w.tokens.now in let k = c.args.ruled in let text = w.text.now in let top = c.args.top in
     let h = c.head.result in let d = c.declare in let ns = entries d.new.names in let ls = entries d.new.lists in
-    let f = c.optional-at-needs in
+    let f = c.optional_at-needs in
     let Γ = headScope empty (params_at n l k.params) in
-    let scope : scope_of w ns ls ≡ Γ = d.ensures.scope ∙ ap (λ zs. headScope (scope_of w zs (entries c.fall-back-2.new.self)) (left l h)) c.fall-back.ensures.held ∙ ap (λ zs. headScope (scope_of w [] zs) (left l h)) c.fall-back-2.ensures.held ∙ ap (headScope empty) c.head.ensures in
-    let N = conditions-made text (scope_of w ns ls) Γ (optionalAt n l Needs k.needs) f.result.from f.result.to (piles c.args.nodes.now c.args.conditions.now c.args.items.now) f.new.conditions f.new.items (subst (λ zs. Listing (conditionsOf text (scope_of w zs ls) (optionalAt n l Needs k.needs)) (entries c.args.conditions.now) (entries f.new.conditions) (entries c.args.items.now) (entries f.new.items)) c.as-slice.ensures f.ensures.listing) scope f.ensures.stretch.0 f.ensures.stretch.1 f.ensures.size f.ensures.room.0 f.ensures.room.1 in
+    let scope : scope_of w ns ls ≡ Γ = d.ensures.scope ∙ ap (λ zs. headScope (scope_of w zs (entries c.fall_back-2.new.self)) (left l h)) c.fall_back.ensures.held ∙ ap (λ zs. headScope (scope_of w [] zs) (left l h)) c.fall_back-2.ensures.held ∙ ap (headScope empty) c.head.ensures in
+    let N = conditions-made text (scope_of w ns ls) Γ (optionalAt n l Needs k.needs) f.result.from f.result.to (piles c.args.nodes.now c.args.conditions.now c.args.items.now) f.new.conditions f.new.items (subst (λ zs. Listing (conditionsOf text (scope_of w zs ls) (optionalAt n l Needs k.needs)) (entries c.args.conditions.now) (entries f.new.conditions) (entries c.args.items.now) (entries f.new.items)) c.as_slice.ensures f.ensures.listing) scope f.ensures.stretch.0 f.ensures.stretch.1 f.ensures.size f.ensures.room.0 f.ensures.room.1 in
     let R1 = roomy_after {u = conditionsWeight (optionalAt n l Gives k.gives)} c.requires.roomy N (omega arith) in
     let a = R1.conditions in let b = R1.items in
     record { fit = c.requires.fit; keyword = refl; conditions = omega arith; items = omega arith }
@@ -57,18 +57,18 @@ pub expr-body-requires : goal.expr-body-requires
 expr-body-requires c =
     let w = c.args.sheet in let s = source_of w in let l = look_of s in let n = length w.tokens.now in let k = c.args.ruled in let text = w.text.now in let top = c.args.top in
     let h = c.head.result in let d = c.declare in let ns = entries d.new.names in let ls = entries d.new.lists in
-    let f = c.optional-at-needs in let g = c.optional-at-gives in
+    let f = c.optional_at-needs in let g = c.optional_at-gives in
     let Γ = headScope empty (params_at n l k.params) in
-    let scope : scope_of w ns ls ≡ Γ = d.ensures.scope ∙ ap (λ zs. headScope (scope_of w zs (entries c.fall-back-2.new.self)) (left l h)) c.fall-back.ensures.held ∙ ap (λ zs. headScope (scope_of w [] zs) (left l h)) c.fall-back-2.ensures.held ∙ ap (headScope empty) c.head.ensures in
-    let N = conditions-made text (scope_of w ns ls) Γ (optionalAt n l Needs k.needs) f.result.from f.result.to (piles c.args.nodes.now c.args.conditions.now c.args.items.now) f.new.conditions f.new.items (subst (λ zs. Listing (conditionsOf text (scope_of w zs ls) (optionalAt n l Needs k.needs)) (entries c.args.conditions.now) (entries f.new.conditions) (entries c.args.items.now) (entries f.new.items)) c.as-slice.ensures f.ensures.listing) scope f.ensures.stretch.0 f.ensures.stretch.1 f.ensures.size f.ensures.room.0 f.ensures.room.1 in
-    let G = conditions-made text (scope_of w ns ls) Γ (optionalAt n l Gives k.gives) g.result.from g.result.to (piles c.args.nodes.now c.optional-at-needs.new.conditions c.optional-at-needs.new.items) g.new.conditions g.new.items (subst (λ zs. Listing (conditionsOf text (scope_of w zs ls) (optionalAt n l Gives k.gives)) (entries f.new.conditions) (entries g.new.conditions) (entries f.new.items) (entries g.new.items)) c.as-slice-2.ensures g.ensures.listing) scope g.ensures.stretch.0 g.ensures.stretch.1 g.ensures.size g.ensures.room.0 g.ensures.room.1 in
+    let scope : scope_of w ns ls ≡ Γ = d.ensures.scope ∙ ap (λ zs. headScope (scope_of w zs (entries c.fall_back-2.new.self)) (left l h)) c.fall_back.ensures.held ∙ ap (λ zs. headScope (scope_of w [] zs) (left l h)) c.fall_back-2.ensures.held ∙ ap (headScope empty) c.head.ensures in
+    let N = conditions-made text (scope_of w ns ls) Γ (optionalAt n l Needs k.needs) f.result.from f.result.to (piles c.args.nodes.now c.args.conditions.now c.args.items.now) f.new.conditions f.new.items (subst (λ zs. Listing (conditionsOf text (scope_of w zs ls) (optionalAt n l Needs k.needs)) (entries c.args.conditions.now) (entries f.new.conditions) (entries c.args.items.now) (entries f.new.items)) c.as_slice.ensures f.ensures.listing) scope f.ensures.stretch.0 f.ensures.stretch.1 f.ensures.size f.ensures.room.0 f.ensures.room.1 in
+    let G = conditions-made text (scope_of w ns ls) Γ (optionalAt n l Gives k.gives) g.result.from g.result.to (piles c.args.nodes.now c.optional_at-needs.new.conditions c.optional_at-needs.new.items) g.new.conditions g.new.items (subst (λ zs. Listing (conditionsOf text (scope_of w zs ls) (optionalAt n l Gives k.gives)) (entries f.new.conditions) (entries g.new.conditions) (entries f.new.items) (entries g.new.items)) c.as_slice-2.ensures g.ensures.listing) scope g.ensures.stretch.0 g.ensures.stretch.1 g.ensures.size g.ensures.room.0 g.ensures.room.1 in
     let R1 = roomy_after {u = conditionsWeight (optionalAt n l Gives k.gives) + exprWeight (rawAt s top w.nodes.now k.body)} c.requires.roomy N (omega arith) in
     let R2 = roomy_after {u = exprWeight (rawAt s top w.nodes.now k.body)} R1 G (omega arith) in
     let m = length-left l h.at h.rest h.here in
     record {
       fit = c.requires.fit;
       rules = c.requires.rules;
-      names = omega (arith, h.within, ap length c.fall-back.ensures.held, c.fall-back.ensures.room, c.requires.names, c.requires.top, d.ensures.more, d.ensures.room.0);
+      names = omega (arith, h.within, ap length c.fall_back.ensures.held, c.fall_back.ensures.room, c.requires.names, c.requires.top, d.ensures.more, d.ensures.room.0);
       roomy = R2;
     }
 
@@ -76,16 +76,16 @@ pub returns : goal.returns
 returns c =
     let w = c.args.sheet in let s = source_of w in let l = look_of s in let n = length w.tokens.now in let k = c.args.ruled in let text = w.text.now in let top = c.args.top in
     let h = c.head.result in let d = c.declare in let ns = entries d.new.names in let ls = entries d.new.lists in
-    let f = c.optional-at-needs in let g = c.optional-at-gives in let b = c.expr-body in let a = c.params-at-params in
+    let f = c.optional_at-needs in let g = c.optional_at-gives in let b = c.expr-body in let a = c.params_at-params in
     let Γ = headScope empty (params_at n l k.params) in
-    let scope : scope_of w ns ls ≡ Γ = d.ensures.scope ∙ ap (λ zs. headScope (scope_of w zs (entries c.fall-back-2.new.self)) (left l h)) c.fall-back.ensures.held ∙ ap (λ zs. headScope (scope_of w [] zs) (left l h)) c.fall-back-2.ensures.held ∙ ap (headScope empty) c.head.ensures in
-    let N = conditions-made text (scope_of w ns ls) Γ (optionalAt n l Needs k.needs) f.result.from f.result.to (piles c.args.nodes.now c.args.conditions.now c.args.items.now) f.new.conditions f.new.items (subst (λ zs. Listing (conditionsOf text (scope_of w zs ls) (optionalAt n l Needs k.needs)) (entries c.args.conditions.now) (entries f.new.conditions) (entries c.args.items.now) (entries f.new.items)) c.as-slice.ensures f.ensures.listing) scope f.ensures.stretch.0 f.ensures.stretch.1 f.ensures.size f.ensures.room.0 f.ensures.room.1 in
-    let G = conditions-made text (scope_of w ns ls) Γ (optionalAt n l Gives k.gives) g.result.from g.result.to (piles c.args.nodes.now c.optional-at-needs.new.conditions c.optional-at-needs.new.items) g.new.conditions g.new.items (subst (λ zs. Listing (conditionsOf text (scope_of w zs ls) (optionalAt n l Gives k.gives)) (entries f.new.conditions) (entries g.new.conditions) (entries f.new.items) (entries g.new.items)) c.as-slice-2.ensures g.ensures.listing) scope g.ensures.stretch.0 g.ensures.stretch.1 g.ensures.size g.ensures.room.0 g.ensures.room.1 in
-    let B : ExprMade (sheetOf w) Γ (rawAt s top w.nodes.now k.body) b.result (piles c.args.nodes.now c.optional-at-gives.new.conditions c.optional-at-gives.new.items) (piles b.new.nodes b.new.conditions b.new.items) =
-    subst (λ (Δ : Scope). ExprMade (sheetOf w) Δ (rawAt s top w.nodes.now k.body) b.result (piles c.args.nodes.now c.optional-at-gives.new.conditions c.optional-at-gives.new.items) (piles b.new.nodes b.new.conditions b.new.items)) (ap (scope_of w ns) c.as-slice-3.ensures ∙ scope) b.ensures.made in
+    let scope : scope_of w ns ls ≡ Γ = d.ensures.scope ∙ ap (λ zs. headScope (scope_of w zs (entries c.fall_back-2.new.self)) (left l h)) c.fall_back.ensures.held ∙ ap (λ zs. headScope (scope_of w [] zs) (left l h)) c.fall_back-2.ensures.held ∙ ap (headScope empty) c.head.ensures in
+    let N = conditions-made text (scope_of w ns ls) Γ (optionalAt n l Needs k.needs) f.result.from f.result.to (piles c.args.nodes.now c.args.conditions.now c.args.items.now) f.new.conditions f.new.items (subst (λ zs. Listing (conditionsOf text (scope_of w zs ls) (optionalAt n l Needs k.needs)) (entries c.args.conditions.now) (entries f.new.conditions) (entries c.args.items.now) (entries f.new.items)) c.as_slice.ensures f.ensures.listing) scope f.ensures.stretch.0 f.ensures.stretch.1 f.ensures.size f.ensures.room.0 f.ensures.room.1 in
+    let G = conditions-made text (scope_of w ns ls) Γ (optionalAt n l Gives k.gives) g.result.from g.result.to (piles c.args.nodes.now c.optional_at-needs.new.conditions c.optional_at-needs.new.items) g.new.conditions g.new.items (subst (λ zs. Listing (conditionsOf text (scope_of w zs ls) (optionalAt n l Gives k.gives)) (entries f.new.conditions) (entries g.new.conditions) (entries f.new.items) (entries g.new.items)) c.as_slice-2.ensures g.ensures.listing) scope g.ensures.stretch.0 g.ensures.stretch.1 g.ensures.size g.ensures.room.0 g.ensures.room.1 in
+    let B : ExprMade (sheetOf w) Γ (rawAt s top w.nodes.now k.body) b.result (piles c.args.nodes.now c.optional_at-gives.new.conditions c.optional_at-gives.new.items) (piles b.new.nodes b.new.conditions b.new.items) =
+    subst (λ (Δ : Scope). ExprMade (sheetOf w) Δ (rawAt s top w.nodes.now k.body) b.result (piles c.args.nodes.now c.optional_at-gives.new.conditions c.optional_at-gives.new.items) (piles b.new.nodes b.new.conditions b.new.items)) (ap (scope_of w ns) c.as_slice-3.ensures ∙ scope) b.ensures.made in
     record {
-      made = rule-made (sheetOf w) (ruleBy w top k) _ (piles c.args.nodes.now c.args.conditions.now c.args.items.now) (piles c.args.nodes.now c.optional-at-needs.new.conditions c.optional-at-needs.new.items) (piles c.args.nodes.now c.optional-at-gives.new.conditions c.optional-at-gives.new.items) (piles b.new.nodes b.new.conditions b.new.items) c.args.params.now a.new.params N G B
+      made = rule-made (sheetOf w) (ruleBy w top k) _ (piles c.args.nodes.now c.args.conditions.now c.args.items.now) (piles c.args.nodes.now c.optional_at-needs.new.conditions c.optional_at-needs.new.items) (piles c.args.nodes.now c.optional_at-gives.new.conditions c.optional_at-gives.new.items) (piles b.new.nodes b.new.conditions b.new.items) c.args.params.now a.new.params N G B
           (subst (λ qs. Added Tables.paramOf (map paramOf qs) (entries c.args.params.now) (entries a.new.params)) c.head-2.ensures a.ensures.added)
           a.ensures.stretch.0 a.ensures.stretch.1 a.ensures.room c.place.ensures;
-      room = (b.ensures.names.1 ∙ d.ensures.room.0 ∙ c.fall-back.ensures.room, d.ensures.room.1 ∙ c.fall-back-2.ensures.room);
+      room = (b.ensures.names.1 ∙ d.ensures.room.0 ∙ c.fall_back.ensures.room, d.ensures.room.1 ∙ c.fall_back-2.ensures.room);
     }

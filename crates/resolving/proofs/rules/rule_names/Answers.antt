@@ -11,13 +11,13 @@ use Rattle.resolving.specs.Ruling.{ruleBy}
 use Rattle.resolving.proofs.Adding.{pushed}
 use Rattle.resolving.proofs.Ruling.{rules-zero, rules-next, rules-same, name-joins}
 use Rattle.resolving.proofs.rules.rule_names.Goals as goal
-use Rattle.resolving.proofs.rules.rule_names.Goals.{in-Some, in-default}
+use Rattle.resolving.proofs.rules.rule_names.Goals.{in-Some, in_default}
 
 pub loop-at-init : goal.loop-at-init
 loop-at-init c =
     let w = c.args.sheet in (
-      ap (tokensOf w) c.fall-back.ensures.held ∙ sym (ap (map (λ (r : Raw.Rule). r.name)) (rules-zero (source_of w) w.nodes.now)),
-      omega (arith, ap length c.fall-back.ensures.held),
+      ap (tokensOf w) c.fall_back.ensures.held ∙ sym (ap (map (λ (r : Raw.Rule). r.name)) (rules-zero (source_of w) w.nodes.now)),
+      omega (arith, ap length c.fall_back.ensures.held),
       refl,
     )
 
@@ -28,14 +28,14 @@ loop-at-preserved c =
       | in-Some v ↦
           let k = v.in-Some.ruled in let q = v.push in
           let here = rules-next s ns at ∙ ap (λ xs. rulesTo s at ns ++ xs) (rule-here s ns at k v.in-Some.ensures) in
-          let p = pushed (entries c.loop-at.names) _ k.name q.result (room c.loop-at.names) q.ensures.value (omega (arith, i.1, i.2, c.fall-back.ensures.room, c.requires, w.few, c.loop-at-test.true)) q.ensures.held in
+          let p = pushed (entries c.loop-at.names) _ k.name q.result (room c.loop-at.names) q.ensures.value (omega (arith, i.1, i.2, c.fall_back.ensures.room, c.requires, w.few, c.loop-at-test.true)) q.ensures.held in
           let e = ap length p ∙ length_push (entries c.loop-at.names) k.name in (
             ap (λ (x : Pile ℕ). tokensOf w (entries x)) v.names-is ∙ name-joins (look_of s) (entries c.loop-at.names) _ (rulesTo s at ns) _ (ruleBy w at k) k.name i.0 p here refl,
             omega (arith, i.1, ap (λ (x : Pile ℕ). length (entries x)) v.names-is),
             ap room v.names-is ∙ q.ensures.room ∙ i.2,
           )
-      | in-default v ↦ (
-        ap (λ (x : Pile ℕ). tokensOf w (entries x)) v.names-is ∙ i.0 ∙ sym (ap (map (λ (r : Raw.Rule). r.name)) (rules-same s ns at (rule-not s ns at v.in-default.ensures))),
+      | in_default v ↦ (
+        ap (λ (x : Pile ℕ). tokensOf w (entries x)) v.names-is ∙ i.0 ∙ sym (ap (map (λ (r : Raw.Rule). r.name)) (rules-same s ns at (rule-not s ns at v.in_default.ensures))),
         omega (arith, i.1, ap (λ (x : Pile ℕ). length (entries x)) v.names-is),
         ap room v.names-is ∙ i.2,
       )

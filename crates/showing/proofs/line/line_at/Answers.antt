@@ -5,14 +5,14 @@ use Rattle.showing.specs.Lines.{isFeed}
 use Rattle.showing.proofs.Lining.{stands-so, feed-within}
 use Rattle.showing.proofs.line.line_at.Goals as goal
 
-pub overflow-add-result : goal.overflow-add-result
-overflow-add-result c =
+pub overflow_add-result : goal.overflow_add-result
+overflow_add-result c =
     let a = count_by-le-length isFeed (take c.min-place.result c.args.text.now) in
     let b = length-take c.min-place.result c.args.text.now in
-    omega (arith, c.well-formed, c.min-place.ensures)
+    omega arith
 
-pub shown-to-requires : goal.shown-to-requires
-shown-to-requires c =
+pub shown_to-requires : goal.shown_to-requires
+shown_to-requires c =
     let h = feed-within c.args.text.now c.min-place.result (omega arith) in
     omega arith
 

@@ -7,8 +7,8 @@ use Rattle.showing.proofs.marks.blanks.Goals as goal
 
 pub loop-byte-preserved : goal.loop-byte-preserved
 loop-byte-preserved c =
-    c.in-ok-push.ensures.bytes
-    ∙ ap₂ ◌++◌ c.loop-byte.invariant (encode_ascii _ (subst (λ n. n < 128) (sym c.blank-under.ensures) (blank-ascii _)) ∙ ap (λ b. b ∷ []) c.blank-under.ensures)
+    c.in_ok-push.ensures.bytes
+    ∙ ap₂ ◌++◌ c.loop-byte.invariant (encode_ascii _ (subst (λ n. n < 128) (sym c.blank_under.ensures) (blank-ascii _)) ∙ ap (λ b. b ∷ []) c.blank_under.ensures)
     ∙ sym (map_more blank c.args.bytes.now c.loop-byte.byte-index 0 c.loop-byte-test.true)
 
 pub returns : goal.returns

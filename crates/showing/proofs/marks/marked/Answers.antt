@@ -11,8 +11,8 @@ returns c =
     let text = c.args.text.now in
     let line = line_of text c.args.place in
     let s = stands-so text c.args.place line refl in
-    let n : c.line-at-line.result.start + c.line-at-line.result.column - 1 - c.line-at-line.result.start ≡ c.line-at-line.result.column - 1 = omega arith in
-    let e = ap (λ k. map blank (take k (drop c.line-at-line.result.start text))) n ∙ ap (blanksTo text) c.line-at-line.ensures.told in
+    let n : c.line_at-line.result.start + c.line_at-line.result.column - 1 - c.line_at-line.result.start ≡ c.line_at-line.result.column - 1 = omega arith in
+    let e = ap (λ k. map blank (take k (drop c.line_at-line.result.start text))) n ∙ ap (blanksTo text) c.line_at-line.ensures.told in
     record {
       told = IfOk-weaker c.blanks.result _ _ (λ t h. h ∙ e) c.blanks.ensures;
       law = IfOk-weaker c.blanks.result _ _ (λ t h. subst (Under text line) (sym (h ∙ e)) (under text line (omega arith) (omega arith))) c.blanks.ensures;

@@ -1,4 +1,4 @@
-use Rattle.std.proofs.Common.{◌+◌, List, take, sym, ap, subst, arith}
+use Rattle.std.proofs.Common.{◌+◌, List, take, sym, subst, arith}
 use Rattle.letters.specs.declared.token.Token.{Token}
 use Rattle.letters.proofs.Running.{run-passes}
 use Rattle.grammar.specs.Parsers.{lookIn}
@@ -7,20 +7,20 @@ use Rattle.showing.specs.Probes.{elsewhere, Apart, probed, Tells}
 use Rattle.showing.proofs.Probing.{fronted}
 use Rattle.showing.proofs.probes.expected.Goals as goal
 
-pub each-kind-requires : goal.each-kind-requires
-each-kind-requires c =
-    let e = fronted c.args.tokens.now _ c.copy-front.new.scratch c.number-at-at.result c.number-at-at.ensures.within c.copy-front.ensures in
+pub each_kind-requires : goal.each_kind-requires
+each_kind-requires c =
+    let e = fronted c.args.tokens.now _ c.copy_front.new.scratch c.number_at-at.result c.number_at-at.ensures.within c.copy_front.ensures in
     record {
       scratch = omega arith;
       nodes = c.if-at-nodes.false;
       place = omega arith;
       apart = subst (λ (ts : List Token). Apart ts c.args.place) (sym e)
-          (subst (λ n. Apart (take n c.args.tokens.now) c.args.place) (sym c.number-at-at.ensures.told) (run-passes (elsewhere c.args.place) c.args.tokens.now));
+          (subst (λ n. Apart (take n c.args.tokens.now) c.args.place) (sym c.number_at-at.ensures.told) (run-passes (elsewhere c.args.place) c.args.tokens.now));
     }
 
 pub returns : goal.returns
 returns c k =
-    let e = fronted c.args.tokens.now _ c.copy-front.new.scratch c.number-at-at.result c.number-at-at.ensures.within c.copy-front.ensures in
+    let e = fronted c.args.tokens.now _ c.copy_front.new.scratch c.number_at-at.result c.number_at-at.ensures.within c.copy_front.ensures in
     let w = c.args.place in
-    subst (λ n. Tells (among c.each-kind.result k) (lookIn (probed (take n c.args.tokens.now) w k) (w + 1)) n) c.number-at-at.ensures.told
-    (subst (λ (ts : List Token). Tells (among c.each-kind.result k) (lookIn (probed ts w k) (w + 1)) c.number-at-at.result) e (c.each-kind.ensures k))
+    subst (λ n. Tells (among c.each_kind.result k) (lookIn (probed (take n c.args.tokens.now) w k) (w + 1)) n) c.number_at-at.ensures.told
+    (subst (λ (ts : List Token). Tells (among c.each_kind.result k) (lookIn (probed ts w k) (w + 1)) c.number_at-at.result) e (c.each_kind.ensures k))

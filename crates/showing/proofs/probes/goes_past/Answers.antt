@@ -21,6 +21,6 @@ returns c =
     (subst (λ (ts : List Token). Lawful c.parse.result ts (c.args.place + 1) c.parse.new.nodes) e c.parse.ensures.law)
     (subst (λ m. m < length c.args.nodes.now) (sym size) c.requires.nodes) in
     record {
-      told = subst (λ b. Tells b (lookIn (probed front c.args.place c.args.kind) (c.args.place + 1)) c.args.at) (sym c.is-past.ensures) (subst (Tells (passed c.parse.result c.args.place) (lookIn (probed front c.args.place c.args.kind) (c.args.place + 1))) size t);
+      told = subst (λ b. Tells b (lookIn (probed front c.args.place c.args.kind) (c.args.place + 1)) c.args.at) (sym c.is_past.ensures) (subst (Tells (passed c.parse.result c.args.place) (lookIn (probed front c.args.place c.args.kind) (c.args.place + 1))) size t);
       kept = take-set c.args.scratch.now c.args.at token;
     }

@@ -8,16 +8,16 @@ pub loop-j-init : goal.loop-j-init
 unfolding all_below
 loop-j-init c = refl
 
-pub returns-then-not-is-zero : goal.returns-then-not-is-zero
-returns-then-not-is-zero c =
+pub returns-then-not-is_zero : goal.returns-then-not-is_zero
+returns-then-not-is_zero c =
     let xs = c.args.xs.now in let j = c.loop-j.j in
-    let s : is_zero (get_or xs j (pos 0)) ≡ false = let f : SFits w32 (get_or xs j (pos 0)) = search rules in sym (simp to_z-of_z at c.if-not-is-zero.ensures) in
+    let s : is_zero (get_or xs j (pos 0)) ≡ false = let f : SFits w32 (get_or xs j (pos 0)) = search rules in sym (simp to_z-of_z at c.if-not-is_zero.ensures) in
     sym (all-broken (λ k. is_zero (get_or xs k (pos 0))) 16 j (omega arith) s)
 
 pub loop-j-preserved : goal.loop-j-preserved
 loop-j-preserved c =
     let xs = c.args.xs.now in let j = c.loop-j.j in
-    let s : is_zero (get_or xs j (pos 0)) ≡ true = let f : SFits w32 (get_or xs j (pos 0)) = search rules in sym (simp to_z-of_z at c.if-not-is-zero.ensures) in
+    let s : is_zero (get_or xs j (pos 0)) ≡ true = let f : SFits w32 (get_or xs j (pos 0)) = search rules in sym (simp to_z-of_z at c.if-not-is_zero.ensures) in
     all_more (λ k. is_zero (get_or xs k (pos 0))) j c.loop-j.invariant s
 
 pub returns : goal.returns

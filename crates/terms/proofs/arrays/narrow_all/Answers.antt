@@ -7,13 +7,13 @@ use Rattle.terms.proofs.arrays.narrow_all.Goals as goal
 pub loop-j-init : goal.loop-j-init
 loop-j-init c = held_none _ _ _ refl
 
-pub returns-in-err-out : goal.returns-in-err-out
-returns-in-err-out c =
+pub returns-in_err-out : goal.returns-in_err-out
+returns-in_err-out c =
     let xs = c.args.xs.now in let j = c.loop-j.j in
     let n : length xs ≡ 16 = search rules in
-    c.from-residual.ensures
+    c.from_residual.ensures
     ∙ held-broken (to_z w32 (of_z w32 c.args.limit)) xs c.loop-j.out j c.loop-j.invariant (omega arith)
-    (c.in-err-out.ensures ∙ ap (λ (z : ℤ). cond (within (to_z w32 (of_z w32 c.args.limit)) z) (Some z) None) (to_z-of_z w64 (get_or xs j (pos 0)) (search rules)))
+    (c.in_err-out.ensures ∙ ap (λ (z : ℤ). cond (within (to_z w32 (of_z w32 c.args.limit)) z) (Some z) None) (to_z-of_z w64 (get_or xs j (pos 0)) (search rules)))
     ∙ ap (λ (l : ℤ). cond (allWithin l xs) (Some xs) None) (to_z-of_z w32 c.args.limit c.ranges.limit)
 
 pub loop-j-preserved : goal.loop-j-preserved
@@ -21,7 +21,7 @@ loop-j-preserved c =
     let xs = c.args.xs.now in let j = c.loop-j.j in
     let n : length xs ≡ 16 = search rules in
     held_more (to_z w32 (of_z w32 c.args.limit)) xs c.loop-j.out j c.loop-j.invariant _ (omega arith) (omega arith)
-    (ap Some (to_z-of_z w32 c.in-ok-out.field-0 (search rules)) ∙ c.in-ok-out.ensures ∙ ap (λ (z : ℤ). cond (within (to_z w32 (of_z w32 c.args.limit)) z) (Some z) None) (to_z-of_z w64 (get_or xs j (pos 0)) (search rules)))
+    (ap Some (to_z-of_z w32 c.in_ok-out.field-0 (search rules)) ∙ c.in_ok-out.ensures ∙ ap (λ (z : ℤ). cond (within (to_z w32 (of_z w32 c.args.limit)) z) (Some z) None) (to_z-of_z w64 (get_or xs j (pos 0)) (search rules)))
 
 pub returns : goal.returns
 returns c =

@@ -6,13 +6,13 @@ use Rattle.rows.proofs.Making.{made_none}
 use Rattle.terms.proofs.Holding.{kept-none, within-small}
 use Rattle.terms.proofs.comparing.row.Goals as goal
 
-pub returns-in-err-coefs : goal.returns-in-err-coefs
-returns-in-err-coefs c =
+pub returns-in_err-coefs : goal.returns-in_err-coefs
+returns-in_err-coefs c =
     let cs = c.args.coefs.now in
-    c.from-residual.ensures ∙ made_none cs c.args.bound c.args.kind (and_right (small c.args.bound) (allSmall cs) (sym (within-small cs) ∙ kept-none cs _ c.in-err-coefs.ensures))
+    c.from_residual.ensures ∙ made_none cs c.args.bound c.args.kind (and_right (small c.args.bound) (allSmall cs) (sym (within-small cs) ∙ kept-none cs _ c.in_err-coefs.ensures))
 
-pub returns-in-err-bound : goal.returns-in-err-bound
-returns-in-err-bound c =
+pub returns-in_err-bound : goal.returns-in_err-bound
+returns-in_err-bound c =
     let cs = c.args.coefs.now in
-    let e : small c.args.bound ≡ false = ap small (sym (to_z-of_z w64 c.args.bound c.ranges.bound)) ∙ kept-none _ _ c.in-err-bound.ensures in
-    c.from-residual-in-err-bound.ensures ∙ made_none cs c.args.bound c.args.kind (and_left (small c.args.bound) (allSmall cs) e)
+    let e : small c.args.bound ≡ false = ap small (sym (to_z-of_z w64 c.args.bound c.ranges.bound)) ∙ kept-none _ _ c.in_err-bound.ensures in
+    c.from_residual-in_err-bound.ensures ∙ made_none cs c.args.bound c.args.kind (and_left (small c.args.bound) (allSmall cs) e)

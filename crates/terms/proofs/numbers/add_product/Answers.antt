@@ -11,8 +11,8 @@ times c =
     let f = c.ranges.x in let g = c.ranges.y in
     (c.product.ensures ∙ ap₂ ◌*ℤ◌ (to_z-of_z w32 c.args.x f) (to_z-of_z w32 c.args.y g), product-near c.args.x c.args.y 2147483648 2147483648 (omega (arith, ints), omega (arith, ints)) (omega (arith, ints), omega (arith, ints)))
 
-pub overflow-add-result : goal.overflow-add-result
-overflow-add-result c =
+pub overflow_add-result : goal.overflow_add-result
+overflow_add-result c =
     let t = times c in let z = within-is room c.args.z c.requires in let f = c.ranges.z in
     omega (arith, ints)
 

@@ -1,17 +1,12 @@
-use Rattle.std.proofs.Common.{false, sym, refl, ap, ◌∙◌, arith, rules}
-use Rattle.letters.specs.declared.kind.Kind.TheVariants.{Comma}
-use Rattle.grammar.specs.Parsers.{is_a}
-use Rattle.grammar.specs.Sheets.{sumSign, itemOn, conditionOn, paramOn}
-use Rattle.grammar.specs.Held.{Any}
-use Rattle.grammar.proofs.Laws.{nexts, on-yes, on-no, stops, gives, seq-ok, seq-err, broke, tail, taken-any}
-use Rattle.grammar.proofs.Loops.{ran-start, chain-chained, turn_on, turn-err, turn_end}
+use Rattle.std.proofs.Common.{rules}
+use Rattle.grammar.proofs.Laws.{seq-ok, seq-err, broke, tail}
 use Rattle.grammar.proofs.parser.Parser.condition.Goals as goal
 
-pub returns-in-err-side : goal.returns-in-err-side
-returns-in-err-side c = record { went = broke c.from-residual.ensures.1 (seq-err _ c.in-err-side.ensures.went); count = search rules }
+pub returns-in_err-side : goal.returns-in_err-side
+returns-in_err-side c = record { went = broke c.from_residual.ensures.1 (seq-err _ c.in_err-side.ensures.went); count = search rules }
 
-pub returns-in-err-comparison : goal.returns-in-err-comparison
-returns-in-err-comparison c = record { went = broke c.from-residual-in-err-comparison.ensures.1 (seq-ok _ c.in-ok-side.ensures.went (seq-err _ c.in-err-comparison.ensures.went)); count = search rules }
+pub returns-in_err-comparison : goal.returns-in_err-comparison
+returns-in_err-comparison c = record { went = broke c.from_residual-in_err-comparison.ensures.1 (seq-ok _ c.in_ok-side.ensures.went (seq-err _ c.in_err-comparison.ensures.went)); count = search rules }
 
 pub returns : goal.returns
-returns c = record { went = seq-ok _ c.in-ok-side.ensures.went (seq-ok _ c.in-ok-comparison.ensures.went (tail _ _ c.side-2.ensures.went)); count = search rules }
+returns c = record { went = seq-ok _ c.in_ok-side.ensures.went (seq-ok _ c.in_ok-comparison.ensures.went (tail _ _ c.side-2.ensures.went)); count = search rules }

@@ -1,10 +1,5 @@
-use Rattle.std.proofs.Common.{false, sym, refl, ap, ◌∙◌, arith, rules}
-use Rattle.letters.specs.declared.kind.Kind.TheVariants.{Comma}
-use Rattle.grammar.specs.Parsers.{is_a}
-use Rattle.grammar.specs.Sheets.{sumSign, itemOn, conditionOn, paramOn}
-use Rattle.grammar.specs.Held.{Any}
-use Rattle.grammar.proofs.Laws.{nexts, on-yes, on-no, stops, gives, seq-ok, seq-err, broke, tail, taken-any}
-use Rattle.grammar.proofs.Loops.{ran-start, chain-chained, turn_on, turn-err, turn_end}
+use Rattle.std.proofs.Common.{sym, rules}
+use Rattle.grammar.proofs.Laws.{nexts, on-yes, on-no, gives, seq-ok, tail}
 use Rattle.grammar.proofs.parser.Parser.item.Goals as goal
 
 pub returns-then-sees-2 : goal.returns-then-sees-2

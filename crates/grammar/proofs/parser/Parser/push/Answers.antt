@@ -1,4 +1,4 @@
-use Rattle.std.proofs.Common.{length, refl, ap, ◌∙◌, arith, rules}
+use Rattle.std.proofs.Common.{rules}
 use Rattle.std.proofs.lemmas.List.{take_more_set, length-take-le, length_push}
 use Rattle.grammar.proofs.parser.Parser.push.Goals as goal
 

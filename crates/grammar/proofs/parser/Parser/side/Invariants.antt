@@ -1,7 +1,6 @@
 use Rattle.std.proofs.Common.{◌-◌, length}
-use Rattle.grammar.specs.Parsers.{chain, is_a}
+use Rattle.grammar.specs.Parsers.{chain}
 use Rattle.grammar.specs.Sheets.{sumSign, itemOn}
-use Rattle.letters.specs.declared.kind.Kind.TheVariants.{Comma}
 use Rattle.grammar.specs.Held.{held, Any, SameCount}
 use Rattle.grammar.proofs.Loops.{Ran}
 use Rattle.grammar.proofs.parser.Parser.side.Given as goal

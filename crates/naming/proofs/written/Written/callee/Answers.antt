@@ -7,19 +7,19 @@ use Rattle.naming.specs.Walks.{headParams}
 use Rattle.naming.proofs.Called.{params-named, call_fits, call-wrong}
 use Rattle.naming.proofs.written.Written.callee.Goals as goal
 
-pub returns-in-err-params : goal.returns-in-err-params
-returns-in-err-params c =
+pub returns-in_err-params : goal.returns-in_err-params
+returns-in_err-params c =
     let w = c.args.self in let n = countArgs (argsAt (source_of w) c.args.top w.nodes.now c.args.at) in
-    λ inside. ap (λ o. callFaults o c.args.token n inside) (params-named w.text.now (rulesOf w) c.args.token ∙ c.in-err-params.ensures) ∙ ap (λ o. called w o c.args.token inside) (sym c.from-residual.ensures)
+    λ inside. ap (λ o. callFaults o c.args.token n inside) (params-named w.text.now (rulesOf w) c.args.token ∙ c.in_err-params.ensures) ∙ ap (λ o. called w o c.args.token inside) (sym c.from_residual.ensures)
 
-pub returns-then-count-left-count-args : goal.returns-then-count-left-count-args
-returns-then-count-left-count-args c =
+pub returns-then-count_left-count_args : goal.returns-then-count_left-count_args
+returns-then-count_left-count_args c =
     let w = c.args.self in let n = countArgs (argsAt (source_of w) c.args.top w.nodes.now c.args.at) in
-    λ inside. ap (λ o. callFaults o c.args.token n inside) (params-named w.text.now (rulesOf w) c.args.token ∙ c.in-ok-params.ensures)
-    ∙ call_fits (headParams w c.in-ok-params.params) c.args.token n inside (sym (ap length c.head.ensures) ∙ sym c.count-left.ensures ∙ c.if-count-left-count-args.true ∙ c.count-args.ensures)
+    λ inside. ap (λ o. callFaults o c.args.token n inside) (params-named w.text.now (rulesOf w) c.args.token ∙ c.in_ok-params.ensures)
+    ∙ call_fits (headParams w c.in_ok-params.params) c.args.token n inside (sym (ap length c.head.ensures) ∙ sym c.count_left.ensures ∙ c.if-count_left-count_args.true ∙ c.count_args.ensures)
 
-pub returns-else-count-left-count-args : goal.returns-else-count-left-count-args
-returns-else-count-left-count-args c =
+pub returns-else-count_left-count_args : goal.returns-else-count_left-count_args
+returns-else-count_left-count_args c =
     let w = c.args.self in let n = countArgs (argsAt (source_of w) c.args.top w.nodes.now c.args.at) in
-    λ inside. ap (λ o. callFaults o c.args.token n inside) (params-named w.text.now (rulesOf w) c.args.token ∙ c.in-ok-params.ensures)
-    ∙ call-wrong (headParams w c.in-ok-params.params) c.args.token n inside (ne_eqb _ _ (λ e. c.if-count-left-count-args.false (c.count-left.ensures ∙ ap length c.head.ensures ∙ e ∙ sym c.count-args.ensures)))
+    λ inside. ap (λ o. callFaults o c.args.token n inside) (params-named w.text.now (rulesOf w) c.args.token ∙ c.in_ok-params.ensures)
+    ∙ call-wrong (headParams w c.in_ok-params.params) c.args.token n inside (ne_eqb _ _ (λ e. c.if-count_left-count_args.false (c.count_left.ensures ∙ ap length c.head.ensures ∙ e ∙ sym c.count_args.ensures)))

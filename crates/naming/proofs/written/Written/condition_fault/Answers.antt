@@ -8,14 +8,14 @@ use Rattle.naming.specs.Sources.{source_of}
 use Rattle.naming.proofs.Smallest.{least-both}
 use Rattle.naming.proofs.written.Written.condition_fault.Goals as goal
 
-pub side-fault-right-requires : goal.side-fault-right-requires
-side-fault-right-requires c = omega (arith, c.side-fault-left.ensures.near)
+pub side_fault-right-requires : goal.side_fault-right-requires
+side_fault-right-requires c = omega (arith, c.side_fault-left.ensures.near)
 
 pub returns : goal.returns
 returns c =
     let w = c.args.self in let l = look_of (source_of w) in let n = length w.tokens.now in let F = sideFaults w.text.now (tokensOf w c.args.names.now) in
-    let e : c.side-fault-left.result.next + 1 ≡ suc (sideAt n l c.args.at).next = omega (arith, c.side-fault-left.ensures.next) in record {
-      fault = least-both (F (sideAt n l c.args.at).value) (F (sideAt n l (suc (sideAt n l c.args.at).next)).value) c.earlier.ensures c.side-fault-left.ensures.fault (c.side-fault-right.ensures.fault ∙ ap (λ i. least (F (sideAt n l i).value)) e);
-      next = c.side-fault-right.ensures.next ∙ ap (λ i. (sideAt n l i).next) e;
-      near = omega (arith, c.side-fault-left.ensures.near, c.side-fault-right.ensures.near);
+    let e : c.side_fault-left.result.next + 1 ≡ suc (sideAt n l c.args.at).next = omega (arith, c.side_fault-left.ensures.next) in record {
+      fault = least-both (F (sideAt n l c.args.at).value) (F (sideAt n l (suc (sideAt n l c.args.at).next)).value) c.earlier.ensures c.side_fault-left.ensures.fault (c.side_fault-right.ensures.fault ∙ ap (λ i. least (F (sideAt n l i).value)) e);
+      next = c.side_fault-right.ensures.next ∙ ap (λ i. (sideAt n l i).next) e;
+      near = omega (arith, c.side_fault-left.ensures.near, c.side_fault-right.ensures.near);
     }

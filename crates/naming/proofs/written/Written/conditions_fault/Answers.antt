@@ -21,21 +21,21 @@ returns-then-at-self c = let w = c.args.self in sym (ap least (past-conditions w
 pub loop-rest-init : goal.loop-rest-init
 loop-rest-init c =
     let w = c.args.self in let l = look_of (source_of w) in let n = length w.tokens.now in let ns = tokensOf w c.args.names.now in
-    let F = conditionFaults w.text.now ns in let f = c.condition-fault-first in (
+    let F = conditionFaults w.text.now ns in let f = c.condition_fault-first in (
       ap (λ xs. least (F xs)) (conditions-list l n c.args.at) ∙ starts F _ (each-condition w.text.now ns) (conditionAt n l c.args.at).value (conditions n l n (conditionAt n l c.args.at).next) f.result.fault f.ensures.fault
           ∙ ap (λ i. merged f.result.fault (least (F (conditions n l n i)))) (sym f.ensures.next),
       f.ensures.near,
     )
 
-pub condition-fault-condition-requires : goal.condition-fault-condition-requires
-condition-fault-condition-requires c =
+pub condition_fault-condition-requires : goal.condition_fault-condition-requires
+condition_fault-condition-requires c =
     let s = comma-stands c.args.self.tokens.now (length c.args.self.text.now) c.loop-rest.next (sym (c.if-is.ensures ∙ ap (is_a Comma) c.token.ensures)) in
     omega (arith, c.args.self.few)
 
 pub loop-rest-preserved : goal.loop-rest-preserved
 loop-rest-preserved c =
     let w = c.args.self in let l = look_of (source_of w) in let n = length w.tokens.now in let ns = tokensOf w c.args.names.now in
-    let f = c.condition-fault-condition in (
+    let f = c.condition_fault-condition in (
       turns l (is_a Comma) (λ t j. conditionAt n l j) _ _ (each-condition w.text.now ns) c.loop-rest.rest c.loop-rest.next _ c.loop-rest.fault f.result.fault c.earlier-fault.result f.result.next
           c.loop-rest.invariant.0 c.loop-rest-test.true (sym (c.if-is.ensures ∙ ap (is_a Comma) c.token.ensures)) f.ensures.fault f.ensures.next c.earlier-fault.ensures,
       f.ensures.near,

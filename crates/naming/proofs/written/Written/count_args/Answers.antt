@@ -9,4 +9,4 @@ loop-last-preserved c =
     (omega (arith, c.loop-last.invariant.0), omega (arith, c.loop-last.invariant.1, c.in-Some.ensures.below))
 
 pub returns : goal.returns
-returns c = let e = count_none (source_of c.args.self) c.loop-last.top c.args.self.nodes.now c.loop-last.at c.in-default.ensures.read in omega (arith, c.loop-last.invariant.0)
+returns c = let e = count_none (source_of c.args.self) c.loop-last.top c.args.self.nodes.now c.loop-last.at c.in_default.ensures.read in omega (arith, c.loop-last.invariant.0)

@@ -9,7 +9,7 @@ use Rattle.naming.proofs.written.Written.declare.Goals as goal
 
 pub loop-step-preserved : goal.loop-step-preserved
 loop-step-preserved c =
-    let w = c.args.self in let l = look_of (source_of w) in let p = written l c.in-Some.step.param in let i = c.loop-step.invariant in let d = c.declare-param-twice in
+    let w = c.args.self in let l = look_of (source_of w) in let p = written l c.in-Some.step.param in let i = c.loop-step.invariant in let d = c.declare_param-twice in
     let Γ = scope_of w (entries c.loop-step.names) (entries c.loop-step.lists) in let ps = left l c.in-Some.step.head in
     let n = ap length c.in-Some.ensures in (
       head-turn w.text.now Γ _ p ps (left l c.loop-step.head) _ c.loop-step.fault d.result c.earlier-fault.result i.0 c.in-Some.ensures d.ensures.value d.ensures.scope c.earlier-fault.ensures,
@@ -24,9 +24,9 @@ pub returns : goal.returns
 returns c =
     let w = c.args.self in let l = look_of (source_of w) in let i = c.loop-step.invariant in
     let Γ = scope_of w (entries c.loop-step.names) (entries c.loop-step.lists) in
-    let n = ap length c.in-default.ensures in record {
-      value = head-end w.text.now Γ (left l c.loop-step.head) _ c.loop-step.fault i.0 c.in-default.ensures;
-      scope = scope-end _ Γ (left l c.loop-step.head) i.1 c.in-default.ensures;
+    let n = ap length c.in_default.ensures in record {
+      value = head-end w.text.now Γ (left l c.loop-step.head) _ c.loop-step.fault i.0 c.in_default.ensures;
+      scope = scope-end _ Γ (left l c.loop-step.head) i.1 c.in_default.ensures;
       more = omega (arith, i.2);
       room = (i.4, i.5);
     }

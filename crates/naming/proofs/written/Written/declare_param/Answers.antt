@@ -15,7 +15,7 @@ returns-in-None c =
     let w = c.args.self in let l = look_of (source_of w) in let p = c.args.param in
     let ns = entries c.args.names.now in let ls = entries c.args.lists.now in
     let e = pushed ns _ p.name c.push.result (room c.args.names.now) c.push.ensures.value c.requires.names c.push.ensures.held in record {
-      value = number-faults w.text.now (scope_of w ns ls) l p _ c.in-None.is (fresh_in w _ ns _ ls _ (l p.name) _ c.declared-twice.ensures c.as-slice.ensures c.as-slice-2.ensures c.token.ensures);
+      value = number-faults w.text.now (scope_of w ns ls) l p _ c.in-None.is (fresh_in w _ ns _ ls _ (l p.name) _ c.declared-twice.ensures c.as_slice.ensures c.as_slice-2.ensures c.token.ensures);
       scope = name-pushed w ns _ ls p.name e ∙ number-scope (scope_of w ns ls) l p c.in-None.is;
       more = ap length e ∙ length_push ns p.name;
       few = omega arith;
@@ -29,8 +29,8 @@ returns-in-Some c =
     let d = pushed ls _ p.name c.push-in-Some.result (room c.args.lists.now) c.push-in-Some.ensures.value c.requires.lists c.push-in-Some.ensures.held in
     let e = pushed ns _ m c.push-in-Some-2.result (room c.args.names.now) c.push-in-Some-2.ensures.value c.requires.names c.push-in-Some-2.ensures.held in
     let s = list_pushed w ns ls _ p.name d in record {
-      value = list-faults w.text.now (scope_of w ns ls) l p m _ _ _ c.in-Some.is c.earlier.ensures (fresh_in w _ ns _ ls _ (l p.name) _ c.declared-twice.ensures c.as-slice.ensures c.as-slice-2.ensures c.token.ensures)
-          (fresh_in w _ ns _ _ _ (l m) _ c.declared-again.ensures c.as-slice-in-Some.ensures c.as-slice-in-Some-2.ensures c.token-in-Some.ensures ∙ ap (λ (Γ : Scope). least (fresh w.text.now Γ (l m))) s);
+      value = list-faults w.text.now (scope_of w ns ls) l p m _ _ _ c.in-Some.is c.earlier.ensures (fresh_in w _ ns _ ls _ (l p.name) _ c.declared-twice.ensures c.as_slice.ensures c.as_slice-2.ensures c.token.ensures)
+          (fresh_in w _ ns _ _ _ (l m) _ c.declared-again.ensures c.as_slice-in-Some.ensures c.as_slice-in-Some-2.ensures c.token-in-Some.ensures ∙ ap (λ (Γ : Scope). least (fresh w.text.now Γ (l m))) s);
       scope = name-pushed w ns _ _ m e ∙ ap (λ (Γ : Scope). naming Γ (l m)) s ∙ list-scope (scope_of w ns ls) l p m c.in-Some.is;
       more = ap length e ∙ length_push ns m;
       few = omega (arith, ap length d ∙ length_push ls p.name);

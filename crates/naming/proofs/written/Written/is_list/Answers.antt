@@ -7,7 +7,7 @@ use Rattle.naming.proofs.written.Written.is_list.Goals as goal
 pub returns-in-Some : goal.returns-in-Some
 returns-in-Some c =
     let w = c.args.self in
-    c.is-among.ensures ∙ ap (among w c.args.lists.now) c.token.ensures
+    c.is_among.ensures ∙ ap (among w c.args.lists.now) c.token.ensures
     ∙ ap is_some (sym (bare-name (source_of w) c.args.top w.nodes.now c.args.at w.text.now (tokensOf w c.args.lists.now) c.in-Some.name c.in-Some.ensures))
 
 pub returns-in-None : goal.returns-in-None

@@ -10,15 +10,15 @@ use Rattle.naming.proofs.Begins.{stands}
 use Rattle.naming.proofs.Turns.{optional-yes, optional-no}
 use Rattle.naming.proofs.written.Written.optional_fault.Goals as goal
 
-pub overflow-add-at : goal.overflow-add-at
-overflow-add-at c =
+pub overflow_add-at : goal.overflow_add-at
+overflow_add-at c =
     let s = stands c.args.keyword c.args.self.tokens.now (length c.args.self.text.now) c.args.at c.requires (sym (c.if-is.ensures ∙ ap (is_a c.args.keyword) c.token.ensures)) in
     omega (arith, c.args.self.few)
 
 pub returns-then-is : goal.returns-then-is
 returns-then-is c =
     let w = c.args.self in let l = look_of (source_of w) in
-    c.conditions-fault.ensures ∙ optional-yes w.text.now (tokensOf w c.args.names.now) (length w.tokens.now) l c.args.keyword c.args.at (sym (c.if-is.ensures ∙ ap (is_a c.args.keyword) c.token.ensures))
+    c.conditions_fault.ensures ∙ optional-yes w.text.now (tokensOf w c.args.names.now) (length w.tokens.now) l c.args.keyword c.args.at (sym (c.if-is.ensures ∙ ap (is_a c.args.keyword) c.token.ensures))
 
 pub returns-else-is : goal.returns-else-is
 returns-else-is c =

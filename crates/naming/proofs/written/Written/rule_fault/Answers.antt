@@ -18,10 +18,10 @@ use Rattle.naming.proofs.Grown.{rule-here, rule-not}
 use Rattle.naming.proofs.Ruling.{no-rule, one-rule}
 use Rattle.naming.proofs.written.Written.rule_fault.Goals as goal
 
-pub returns-in-default : goal.returns-in-default
-returns-in-default c =
+pub returns-in_default : goal.returns-in_default
+returns-in_default c =
     let w = c.args.self in record {
-      value = no-rule (sheetOf w) (rulesTo (source_of w) c.args.at w.nodes.now) _ (rule-not (source_of w) w.nodes.now c.args.at c.in-default.ensures);
+      value = no-rule (sheetOf w) (rulesTo (source_of w) c.args.at w.nodes.now) _ (rule-not (source_of w) w.nodes.now c.args.at c.in_default.ensures);
       room = (refl, refl);
     }
 
@@ -29,36 +29,36 @@ pub declare-head-requires : goal.declare-head-requires
 declare-head-requires c =
     let h = c.head.result in
     let n = length-left (look_of (source_of c.args.self)) h.at h.rest h.here in record {
-      names = omega (arith, h.within, ap length c.fall-back.ensures.held, c.fall-back.ensures.room, c.requires.names);
-      lists = omega (arith, h.within, ap length c.fall-back-2.ensures.held, c.fall-back-2.ensures.room, c.requires.lists);
+      names = omega (arith, h.within, ap length c.fall_back.ensures.held, c.fall_back.ensures.room, c.requires.names);
+      lists = omega (arith, h.within, ap length c.fall_back-2.ensures.held, c.fall_back-2.ensures.room, c.requires.lists);
     }
 
-pub optional-fault-needs-requires : goal.optional-fault-needs-requires
+pub optional_fault-needs-requires : goal.optional_fault-needs-requires
 unfolding sameKind
-optional-fault-needs-requires c = refl
+optional_fault-needs-requires c = refl
 
-pub optional-fault-gives-requires : goal.optional-fault-gives-requires
+pub optional_fault-gives-requires : goal.optional_fault-gives-requires
 unfolding sameKind
-optional-fault-gives-requires c = refl
+optional_fault-gives-requires c = refl
 
-pub expr-fault-body-requires : goal.expr-fault-body-requires
-expr-fault-body-requires c =
+pub expr_fault-body-requires : goal.expr_fault-body-requires
+expr_fault-body-requires c =
     let h = c.head.result in
     let n = length-left (look_of (source_of c.args.self)) h.at h.rest h.here in
-    omega (arith, h.within, ap length c.fall-back.ensures.held, c.fall-back.ensures.room, c.requires.names, c.requires.at, c.declare-head.ensures.more, c.declare-head.ensures.room.0)
+    omega (arith, h.within, ap length c.fall_back.ensures.held, c.fall_back.ensures.room, c.requires.names, c.requires.at, c.declare-head.ensures.more, c.declare-head.ensures.room.0)
 
 pub returns : goal.returns
 returns c =
     let w = c.args.self in let s = source_of w in let l = look_of s in let text = w.text.now in let at = c.args.at in let k = c.in-Some.rule in let n = length w.tokens.now in
     let d = c.declare-head in let names = entries d.new.names in let lists = entries d.new.lists in
-    let ns = entries c.fall-back.new.self in let ls = entries c.fall-back-2.new.self in let ps = left l c.head.result in record {
+    let ns = entries c.fall_back.new.self in let ls = entries c.fall_back-2.new.self in let ps = left l c.head.result in record {
       value = one-rule (sheetOf w) (rulesTo s at w.nodes.now) _ _ (scope_of w names lists) _ _ _ _ _ _ _ _ _ (rule-here s w.nodes.now at k c.in-Some.ensures)
-          (d.ensures.scope ∙ ap (λ xs. headScope (scope_of w xs ls) ps) c.fall-back.ensures.held ∙ ap (λ xs. headScope (scope_of w [] xs) ps) c.fall-back-2.ensures.held ∙ ap (headScope empty) c.head.ensures)
-          (c.named-twice-twice.ensures ∙ ap (λ (t : Token). least (cond (is_some (Scopes.ruleIn text (rulesTo s at w.nodes.now) t)) (t.place ∷ []) [])) c.token.ensures)
-          (d.ensures.value ∙ ap (λ xs. least (headFaults text (scope_of w xs ls) ps)) c.fall-back.ensures.held ∙ ap (λ xs. least (headFaults text (scope_of w [] xs) ps)) c.fall-back-2.ensures.held ∙ ap (λ qs. least (headFaults text empty qs)) c.head.ensures)
-          (c.optional-fault-needs.ensures ∙ ap (λ xs. least (conditionFaults text (tokensOf w xs) (optionalAt n l Needs k.needs))) c.as-slice.ensures)
-          (c.optional-fault-gives.ensures ∙ ap (λ xs. least (conditionFaults text (tokensOf w xs) (optionalAt n l Gives k.gives))) c.as-slice-2.ensures)
-          (c.expr-fault-body.ensures.told ∙ ap (λ xs. least (exprAt w xs at k.body names)) c.as-slice-3.ensures)
+          (d.ensures.scope ∙ ap (λ xs. headScope (scope_of w xs ls) ps) c.fall_back.ensures.held ∙ ap (λ xs. headScope (scope_of w [] xs) ps) c.fall_back-2.ensures.held ∙ ap (headScope empty) c.head.ensures)
+          (c.named_twice-twice.ensures ∙ ap (λ (t : Token). least (cond (is_some (Scopes.ruleIn text (rulesTo s at w.nodes.now) t)) (t.place ∷ []) [])) c.token.ensures)
+          (d.ensures.value ∙ ap (λ xs. least (headFaults text (scope_of w xs ls) ps)) c.fall_back.ensures.held ∙ ap (λ xs. least (headFaults text (scope_of w [] xs) ps)) c.fall_back-2.ensures.held ∙ ap (λ qs. least (headFaults text empty qs)) c.head.ensures)
+          (c.optional_fault-needs.ensures ∙ ap (λ xs. least (conditionFaults text (tokensOf w xs) (optionalAt n l Needs k.needs))) c.as_slice.ensures)
+          (c.optional_fault-gives.ensures ∙ ap (λ xs. least (conditionFaults text (tokensOf w xs) (optionalAt n l Gives k.gives))) c.as_slice-2.ensures)
+          (c.expr_fault-body.ensures.told ∙ ap (λ xs. least (exprAt w xs at k.body names)) c.as_slice-3.ensures)
           c.earlier.ensures c.earlier-2.ensures c.earlier-3.ensures c.earlier-4.ensures;
-      room = (c.expr-fault-body.ensures.roomy ∙ d.ensures.room.0 ∙ c.fall-back.ensures.room, d.ensures.room.1 ∙ c.fall-back-2.ensures.room);
+      room = (c.expr_fault-body.ensures.roomy ∙ d.ensures.room.0 ∙ c.fall_back.ensures.room, d.ensures.room.1 ∙ c.fall_back-2.ensures.room);
     }

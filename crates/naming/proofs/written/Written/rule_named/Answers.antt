@@ -16,4 +16,4 @@ returns-in-Some c =
 pub loop-at-preserved : goal.loop-at-preserved
 loop-at-preserved c =
     let w = c.args.self in let s = source_of w in
-    named-next w.text.now c.args.token s w.nodes.now c.loop-at.at c.loop-at.invariant ∙ c.in-default.ensures
+    named-next w.text.now c.args.token s w.nodes.now c.loop-at.at c.loop-at.invariant ∙ c.in_default.ensures

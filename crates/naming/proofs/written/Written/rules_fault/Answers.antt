@@ -9,7 +9,7 @@ loop-at-init c = let w = c.args.self in (rules-first (sheetOf w) (source_of w) w
 
 pub loop-at-preserved : goal.loop-at-preserved
 loop-at-preserved c =
-    let w = c.args.self in let i = c.loop-at.invariant in let h = c.rule-fault-here in (
+    let w = c.args.self in let i = c.loop-at.invariant in let h = c.rule_fault-here in (
       rules-next (sheetOf w) (source_of w) w.nodes.now c.loop-at.at c.loop-at.fault h.result c.earlier-fault.result i.0 h.ensures.value c.earlier-fault.ensures,
       omega (arith, i.1, h.ensures.room.0),
       omega (arith, i.2, h.ensures.room.1),

@@ -17,34 +17,34 @@ use Rattle.naming.proofs.written.Written.side_fault.Goals as goal
 pub loop-rest-init : goal.loop-rest-init
 loop-rest-init c =
     let w = c.args.self in let l = look_of (source_of w) in let n = length w.tokens.now in let ns = tokensOf w c.args.names.now in
-    let F = sideFaults w.text.now ns in let f = c.item-fault-first in (
+    let F = sideFaults w.text.now ns in let f = c.item_fault-first in (
       ap (λ xs. least (F xs)) (side-list l n c.args.at) ∙ starts F _ (each-side w.text.now ns) (item_at l false c.args.at).value (items l n (item_at l false c.args.at).next) f.result.fault (f.ensures.fault false)
           ∙ ap (λ i. merged f.result.fault (least (F (items l n i)))) (sym (f.ensures.next false)),
       side-end l n c.args.at ∙ ap (itemsEnd l n) (sym (f.ensures.next false)),
       omega (arith, f.ensures.near),
     )
 
-pub item-fault-item-requires : goal.item-fault-item-requires
-item-fault-item-requires c =
-    let s = sign-stands c.args.self.tokens.now (length c.args.self.text.now) c.loop-rest.next (sym c.if-is-sign.ensures) in
+pub item_fault-item-requires : goal.item_fault-item-requires
+item_fault-item-requires c =
+    let s = sign-stands c.args.self.tokens.now (length c.args.self.text.now) c.loop-rest.next (sym c.if-is_sign.ensures) in
     omega (arith, c.args.self.few)
 
 pub loop-rest-preserved : goal.loop-rest-preserved
 loop-rest-preserved c =
     let w = c.args.self in let l = look_of (source_of w) in let ns = tokensOf w c.args.names.now in
-    let f = c.item-fault-item in let m = is_a Minus (l c.loop-rest.next) in
-    let s = sign-stands w.tokens.now (length w.text.now) c.loop-rest.next (sym c.if-is-sign.ensures) in (
+    let f = c.item_fault-item in let m = is_a Minus (l c.loop-rest.next) in
+    let s = sign-stands w.tokens.now (length w.text.now) c.loop-rest.next (sym c.if-is_sign.ensures) in (
       turns l sumSign (λ t j. item_at l (is_a Minus t) j) _ _ (each-side w.text.now ns) c.loop-rest.rest c.loop-rest.next _ c.loop-rest.fault f.result.fault c.earlier-fault.result f.result.next
-          c.loop-rest.invariant.0 c.loop-rest-test.true (sym c.if-is-sign.ensures) (f.ensures.fault m) (f.ensures.next m) c.earlier-fault.ensures,
-      c.loop-rest.invariant.1 ∙ end_more l sumSign (λ t j. item_at l (is_a Minus t) j) c.loop-rest.rest c.loop-rest.next c.loop-rest-test.true (sym c.if-is-sign.ensures) ∙ ap (itemsEnd l _) (sym (f.ensures.next m)),
+          c.loop-rest.invariant.0 c.loop-rest-test.true (sym c.if-is_sign.ensures) (f.ensures.fault m) (f.ensures.next m) c.earlier-fault.ensures,
+      c.loop-rest.invariant.1 ∙ end_more l sumSign (λ t j. item_at l (is_a Minus t) j) c.loop-rest.rest c.loop-rest.next c.loop-rest-test.true (sym c.if-is_sign.ensures) ∙ ap (itemsEnd l _) (sym (f.ensures.next m)),
       omega (arith, f.ensures.near, w.few),
     )
 
-pub returns-else-is-sign : goal.returns-else-is-sign
-returns-else-is-sign c =
+pub returns-else-is_sign : goal.returns-else-is_sign
+returns-else-is_sign c =
     let w = c.args.self in let l = look_of (source_of w) in let ns = tokensOf w c.args.names.now in record {
-      fault = ends _ _ (each-side w.text.now ns) _ _ c.loop-rest.fault c.loop-rest.invariant.0 (rest-none l sumSign (λ t j. item_at l (is_a Minus t) j) c.loop-rest.rest c.loop-rest.next (sym c.if-is-sign.ensures));
-      next = sym (c.loop-rest.invariant.1 ∙ end_none l sumSign (λ t j. item_at l (is_a Minus t) j) c.loop-rest.rest c.loop-rest.next (sym c.if-is-sign.ensures));
+      fault = ends _ _ (each-side w.text.now ns) _ _ c.loop-rest.fault c.loop-rest.invariant.0 (rest-none l sumSign (λ t j. item_at l (is_a Minus t) j) c.loop-rest.rest c.loop-rest.next (sym c.if-is_sign.ensures));
+      next = sym (c.loop-rest.invariant.1 ∙ end_none l sumSign (λ t j. item_at l (is_a Minus t) j) c.loop-rest.rest c.loop-rest.next (sym c.if-is_sign.ensures));
       near = c.loop-rest.invariant.2;
     }
 

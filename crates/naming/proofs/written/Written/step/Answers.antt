@@ -13,11 +13,11 @@ use Rattle.naming.proofs.written.Written.step.Goals.{else-head-gt0-via-then-head
 pub returns-then-not-head : goal.returns-then-not-head
 returns-then-not-head c = left-none _ c.args.head.at c.args.head.rest c.args.head.here (is_false c.if-not-head.true)
 
-pub invariant-of-head : goal.invariant-of-head
+pub invariant_of-head : goal.invariant_of-head
 unfolding sameKind
-invariant-of-head c =
+invariant_of-head c =
     let s = stands Comma c.args.self.tokens.now (length c.args.self.text.now) c.param-next.result.1 refl (sym (c.if-is.ensures ∙ ap (is_a Comma) c.token.ensures)) in
-    (omega arith, tt)
+    record { within = (omega arith, omega arith) }
 
 pub returns-then-is : goal.returns-then-is
 returns-then-is c =

@@ -3,9 +3,9 @@ use Rattle.std.proofs.lemmas.List.{take_more_set, length-take-le}
 use Rattle.provers.specs.Elimination.{pushAll}
 use Rattle.provers.proofs.worklist.WorkList.push.Goals as goal
 
-pub returns-then-self-ge-MOST-ROWS : goal.returns-then-self-ge-MOST-ROWS
+pub returns-then-self-ge-MOST_ROWS : goal.returns-then-self-ge-MOST_ROWS
 unfolding pushAll
-returns-then-self-ge-MOST-ROWS c = search (rules, take_more_set, length-take-le)
+returns-then-self-ge-MOST_ROWS c = search (rules, take_more_set, length-take-le)
 
 pub returns : goal.returns
 unfolding pushAll

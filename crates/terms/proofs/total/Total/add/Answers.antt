@@ -7,8 +7,8 @@ use Rattle.terms.specs.Totals.{sum_of, takes}
 use Rattle.terms.proofs.Adding.{room-coefs, modest-more, one_more}
 use Rattle.terms.proofs.total.Total.add.Goals as goal
 
-pub add-products-coefs-requires : goal.add-products-coefs-requires
-add-products-coefs-requires c = let s = c.args.self in room-coefs s.count s.constant s.coefs s.kept
+pub add_products-coefs-requires : goal.add_products-coefs-requires
+add_products-coefs-requires c = let s = c.args.self in room-coefs s.count s.constant s.coefs s.kept
 
 -- the callees' clauses, with the numbers as they were given
 module _ (k : ℤ) (f : SFits w32 k) where
@@ -22,17 +22,17 @@ module _ (k : ℤ) (f : SFits w32 k) where
     takes-it : (n : ℕ) → true ≡ takes n (to_z w32 (of_z w32 k)) t → takes n k t ≡ true
     takes-it n e = ap (λ (l : ℤ). takes n l t) (sym (to_z-of_z w32 k f)) ∙ sym e
 
-pub invariant-of-result : goal.invariant-of-result
-invariant-of-result c =
+pub invariant_of-result : goal.invariant_of-result
+invariant_of-result c =
     let s = c.args.self in let t = c.args.t.now in let k = c.args.factor in let f = c.ranges.factor in
-    let x = constant-is k f t.constant s.constant c.add-product-constant.result (search rules) (search rules) (search rules) c.add-product-constant.ensures in
-    let xs = coefs-are k f t s.coefs c.add-products-coefs.result c.add-products-coefs.ensures in
-    (ap₂ (modest (s.count + 1)) x xs ∙ modest-more s.count s.constant s.coefs s.kept k t (takes-it k f t s.count c.if-not-takes.ensures), tt)
+    let x = constant-is k f t.constant s.constant c.add_product-constant.result (search rules) (search rules) (search rules) c.add_product-constant.ensures in
+    let xs = coefs-are k f t s.coefs c.add_products-coefs.result c.add_products-coefs.ensures in
+    record { kept = ap₂ (modest (s.count + 1)) x xs ∙ modest-more s.count s.constant s.coefs s.kept k t (takes-it k f t s.count c.if-not-takes.ensures) }
 
 pub returns : goal.returns
 returns c =
     let s = c.args.self in let t = c.args.t.now in let k = c.args.factor in let f = c.ranges.factor in
-    let x = constant-is k f t.constant s.constant c.add-product-constant.result (search rules) (search rules) (search rules) c.add-product-constant.ensures in
-    let xs = coefs-are k f t s.coefs c.add-products-coefs.result c.add-products-coefs.ensures in
+    let x = constant-is k f t.constant s.constant c.add_product-constant.result (search rules) (search rules) (search rules) c.add_product-constant.ensures in
+    let xs = coefs-are k f t s.coefs c.add_products-coefs.result c.add_products-coefs.ensures in
     ap (λ (u : Term). Some (s.count + 1, u)) (ap₂ termOf x xs ∙ sym (one_more k t (sum_of s)))
     ∙ sym (ap (λ (b : Bool). cond b (Some (s.count + 1, plus (scaled k t) (sum_of s))) None) (takes-it k f t s.count c.if-not-takes.ensures))

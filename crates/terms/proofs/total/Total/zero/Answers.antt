@@ -4,9 +4,9 @@ use Rattle.terms.specs.Narrow.{allWithin}
 use Rattle.terms.proofs.Order.{in-turn}
 use Rattle.terms.proofs.total.Total.zero.Goals as goal
 
-pub invariant-of-result : goal.invariant-of-result
+pub invariant_of-result : goal.invariant_of-result
 unfolding allWithin
-invariant-of-result c = (refl, tt)
+invariant_of-result c = record { kept = refl }
 
 pub returns : goal.returns
 unfolding constant each
