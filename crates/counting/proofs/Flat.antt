@@ -1,13 +1,17 @@
 -- The first place past what a sheet may have: from the tables, and of the tree that lies in them.
-use Rattle.std.proofs.Common.{◌≡◌, ℕ, cond, List, Some, sum_by, refl, ap, arith}
+use Rattle.std.proofs.Common.{◌≡◌, ℕ, cond, List, Some, sum_by, refl, ap, ◌∙◌, arith}
 use Rattle.grammar.specs.Raw as Raw
 use Rattle.language.specs.Tree as Tree
 use Rattle.records.specs.declared.node.Node.{Node}
 use Rattle.records.specs.declared.node.Node.TheVariants.{Blank, Num, Name, Calc, Read, Call, Bind, Test, Put, Claim, End, Value, Lent}
 use Rattle.records.specs.declared.condition.Condition.{Condition}
+use Rattle.records.specs.Columns.{Columns}
 use Rattle.records.specs.Counting.{nodeUpTo, nodesUpTo, listedUpTo}
 use Rattle.counting.specs.Counts.{isUpTo, exprPlace, placedUpTo, sheetExprs, sheetConditions, faultBy, countFault, flatFault}
+use Rattle.counting.specs.declared.placed.Placed.TheVariants.{Exprs, Conditions}
+use Rattle.counting.specs.Places.{placedIn}
 use Rattle.counting.proofs.Firsts.{Rising, placed-rises}
+use Rattle.counting.proofs.Places.{placed-map}
 
 node-placed : (q : ℕ) (n : Node) → cond (isUpTo q (exprPlace n)) 1 0 ≡ nodeUpTo q n
 node-placed q Blank = refl
@@ -32,11 +36,11 @@ conditions-at : (conditions : List Condition) (q : ℕ) → placedUpTo (λ (c : 
 unfolding listedUpTo
 conditions-at conditions q = refl
 
-pub nodes-placed : (nodes : List Node) → placedUpTo exprPlace nodes ≡ (λ q. nodesUpTo q nodes)
-nodes-placed nodes = λ i q. nodes-at nodes q i
+pub exprs-placed : (c : Columns) → placedIn c Exprs ≡ (λ q. nodesUpTo q c.nodes.entries)
+exprs-placed c = λ i q. (placed-map exprPlace c.nodes.entries q ∙ nodes-at c.nodes.entries q) i
 
-pub conditions-placed : (conditions : List Condition) → placedUpTo (λ (c : Condition). Some c.place) conditions ≡ (λ q. listedUpTo q conditions)
-conditions-placed conditions = λ i q. conditions-at conditions q i
+pub conditions-placed : (c : Columns) → placedIn c Conditions ≡ (λ q. listedUpTo q c.conditions.entries)
+conditions-placed c = λ i q. (placed-map (λ (x : Condition). Some x.place) c.conditions.entries q ∙ conditions-at c.conditions.entries q) i
 
 pub nodes-rise : (nodes : List Node) → Rising (λ q. nodesUpTo q nodes)
 nodes-rise nodes p q h = omega (arith, placed-rises exprPlace nodes p q h, nodes-at nodes p, nodes-at nodes q)

@@ -1,4 +1,5 @@
 pub mod Firsts
+pub mod Places
 pub mod Params
 pub mod Rules
 pub mod Flat

@@ -1,28 +1,47 @@
 use crate::by_hand::ByHand;
 use crate::commands::{Command, Complaint, DomainName, ProverName, read_command};
+use crate::pictures::print_check;
+use crate::sheets::{print_read, read_front};
 use asking::linear_certificate;
 use domains::{Fault, Linear, Modes, verified};
+use language::Refusal;
 use provers::{Empty, MOST_NUMBERS, Prover};
+use reading::read;
+use records::Record;
 use rows::Question;
 use std::io;
 use std::str::from_utf8;
 
 const HELP: &'static str = "commands, one a line, words separated by single blanks:
+  check FILE               read the sheet in a file, and show where it is refused
+  sheet FILE LOW HIGH      read the sheet in a file for numbers from LOW to HIGH
   question-new             begin a new question
   fact ROW                 add a fact to the question
   goal ROW                 set the question's goal
   verify DOMAIN N N ..     ask a domain whether the certificate is good
   ask PROVER               ask a prover for a certificate
   help                     this text
+LOW is at most 0 and HIGH at least 0, from -2147483648 to 2147483647
 ROW is as in '-1*q0 2*q3 <= 5', '1*q0 != 3' or '0 <= -1'; DOMAIN is linear or modes, PROVER fm or empty
 a line that is empty or begins with # is passed over";
 
 // What a command answers, beside what it changes.
+#[derive(Drop)]
 enum Answer {
     Silence,
     Help,
     Outcome(Result<(), Fault>),
     Proposal(Option<usize>, [u32; 128]),
+    Sheet(Result<usize, Refusal>),
+    // A file's name, its text, and how it was read.
+    Check(String, Vec<u8>, Result<usize, Refusal>),
+}
+
+// What the desk has at hand: the question by hand, and records to read sheets into.
+#[derive(Drop)]
+pub(crate) struct Desk {
+    pub question: ByHand,
+    pub records: Vec<Record>,
 }
 
 fn verify(question: &ByHand, domain: DomainName, certificate: &[u32]) -> Result<Answer, Complaint> {
@@ -56,7 +75,15 @@ fn ask(question: &ByHand, prover: ProverName) -> Result<Answer, Complaint> {
     Ok(Answer::Proposal(count, buffer))
 }
 
-fn obey(question: &mut ByHand, command: Command) -> Result<Answer, Complaint> {
+// The widest range: what it is makes no difference to the stages that a check shows.
+fn check(rt: &HostRuntime, records: &mut [Record], file: String) -> Result<Answer, Complaint> {
+    let text = read_front(rt, file.as_str())?;
+    let read = read(text.as_slice(), i32::MIN, i32::MAX, records);
+    Ok(Answer::Check(file, text, read))
+}
+
+fn obey(rt: &HostRuntime, desk: &mut Desk, command: Command) -> Result<Answer, Complaint> {
+    let question = &mut desk.question;
     match command {
         Command::Help => Ok(Answer::Help),
         Command::QuestionNew => {
@@ -73,6 +100,11 @@ fn obey(question: &mut ByHand, command: Command) -> Result<Answer, Complaint> {
         }
         Command::Verify(domain, certificate) => verify(question, domain, certificate.as_slice()),
         Command::Ask(prover) => ask(question, prover),
+        Command::Sheet(file, low, high) => {
+            let text = read_front(rt, file.as_str())?;
+            Ok(Answer::Sheet(read(text.as_slice(), low, high, &mut desk.records)))
+        }
+        Command::Check(file) => check(rt, &mut desk.records, file),
     }
 }
 
@@ -105,27 +137,34 @@ fn print_answer(rt: &HostRuntime, answer: Result<Answer, Complaint>) -> io::Resu
         Ok(Answer::Help) => println!(rt; "{HELP}"),
         Ok(Answer::Outcome(outcome)) => print_outcome(rt, outcome),
         Ok(Answer::Proposal(count, numbers)) => print_proposal(rt, count, &numbers),
+        Ok(Answer::Sheet(read)) => print_read(rt, read),
+        Ok(Answer::Check(file, text, read)) => print_check(
+            rt,
+            file.as_str(),
+            text.as_slice(),
+            read,
+        ),
         Err(complaint) => println!(rt; "error: {complaint}"),
     }
 }
 
-fn answer_text(rt: &HostRuntime, question: &mut ByHand, line: &str) -> io::Result<()> {
+fn answer_text(rt: &HostRuntime, desk: &mut Desk, line: &str) -> io::Result<()> {
     if line.is_empty() || line.starts_with('#') {
         return Ok(());
     }
     println!(rt; "> {line}")?;
     let answer = match read_command(rt.alloc(), line) {
-        Ok(command) => obey(question, command),
+        Ok(command) => obey(rt, desk, command),
         Err(complaint) => Err(complaint),
     };
     print_answer(rt, answer)
 }
 
 // Answers one line; a carriage return before its end is not part of it.
-pub(crate) fn answer_line(rt: &HostRuntime, question: &mut ByHand, bytes: &[u8]) -> io::Result<()> {
+pub(crate) fn answer_line(rt: &HostRuntime, desk: &mut Desk, bytes: &[u8]) -> io::Result<()> {
     let Ok(text) = from_utf8(bytes) else {
         println!(rt; "> (not text)")?;
         return print_answer(rt, Err(Complaint::NoText));
     };
-    answer_text(rt, question, text.strip_suffix('\r').unwrap_or(text))
+    answer_text(rt, desk, text.strip_suffix('\r').unwrap_or(text))
 }

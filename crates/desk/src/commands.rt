@@ -1,7 +1,7 @@
 use notation::{Misread, read_row, read_u32};
 use rows::Row;
 use std::alloc::{AllocError, AllocFailed, Global};
-use std::fmt;
+use std::{fmt, io};
 
 #[derive(Clone, Copy)]
 pub enum DomainName {
@@ -24,10 +24,13 @@ pub enum Command {
     Goal(Row),
     Verify(DomainName, Vec<u32>),
     Ask(ProverName),
+    // A file, and a range from low to high.
+    Sheet(String, i32, i32),
+    Check(String),
 }
 
 // Why a line is no command, or has no meaning where it stands.
-#[derive(Clone, Copy)]
+#[derive(Drop)]
 pub enum Complaint {
     Unknown,
     Bare,
@@ -35,6 +38,9 @@ pub enum Complaint {
     Prover,
     NoGoal,
     NoText,
+    NoFile,
+    Range,
+    Unreadable(io::Error),
     Misread(Misread),
 }
 
@@ -50,32 +56,48 @@ impl From<AllocError> for Complaint {
     }
 }
 
+impl From<io::Error> for Complaint {
+    fn from(value: io::Error) -> Complaint {
+        Complaint::Unreadable(value)
+    }
+}
+
 impl<T: Drop> From<AllocFailed<T>> for Complaint {
     fn from(_value: AllocFailed<T>) -> Complaint {
         Complaint::Misread(Misread::Memory)
     }
 }
 
-fn sentence(complaint: Complaint) -> &'static str {
+fn sentence(complaint: &Complaint) -> &'static str {
     match complaint {
         Complaint::Unknown =>
-            "no such command: expected question-new, fact, goal, verify, ask or help",
+            "no such command: expected sheet, check, question-new, fact, goal, verify, ask or help",
         Complaint::Bare => "something stands after the command: expected the command alone",
         Complaint::Domain => "no such domain: expected linear or modes",
         Complaint::Prover => "no such prover: expected fm or empty",
         Complaint::NoGoal => "the question has no goal yet: expected goal ROW first",
         Complaint::NoText => "the line is no UTF-8 text: expected a command",
+        Complaint::NoFile => "no file is named: expected sheet FILE LOW HIGH, or check FILE",
+        Complaint::Range =>
+            "low and high are expected after the file, whole numbers from -2147483648 to 2147483647 in their shortest form",
+        Complaint::Unreadable(_) => "",
         Complaint::Misread(_) => "",
     }
 }
 
 impl fmt::Display for Complaint {
     fn fmt<W: fmt::Write>(&self, f: &mut fmt::Formatter<W>) -> fmt::Result {
-        if let Complaint::Misread(misread) = self {
-            return write!(f, "{misread}");
+        match self {
+            Complaint::Misread(misread) => write!(f, "{misread}"),
+            Complaint::Unreadable(error) => write!(
+                f,
+                "the file cannot be read: {error}; expected a file's name"
+            ),
+            _ => {
+                let text = sentence(self);
+                write!(f, "{text}")
+            }
         }
-        let text = sentence(*self);
-        write!(f, "{text}")
     }
 }
 
@@ -133,6 +155,42 @@ fn read_verify(heap: Global, rest: &str) -> Result<Command, Complaint> {
     Ok(Command::Verify(domain, certificate))
 }
 
+// A number of a range, in its one form.
+fn read_bound(heap: Global, word: &str) -> Result<i32, Complaint> {
+    let Ok(n) = word.parse::<i32>() else {
+        return Err(Complaint::Range);
+    };
+    let written = format!(in heap; "{n}")?;
+    if written.as_str() != word {
+        return Err(Complaint::Range);
+    }
+    Ok(n)
+}
+
+// A file's name and a range; the name is all before the last two words.
+fn read_sheet(heap: Global, rest: &str) -> Result<Command, Complaint> {
+    if rest.is_empty() {
+        return Err(Complaint::NoFile);
+    }
+    let Some((front, high)) = rest.rsplit_once(' ') else {
+        return Err(Complaint::Range);
+    };
+    let Some((file, low)) = front.rsplit_once(' ') else {
+        return Err(Complaint::Range);
+    };
+    let low = read_bound(heap, low)?;
+    let high = read_bound(heap, high)?;
+    let file = String::from_str(heap, file)?;
+    Ok(Command::Sheet(file, low, high))
+}
+
+fn read_check(heap: Global, rest: &str) -> Result<Command, Complaint> {
+    if rest.is_empty() {
+        return Err(Complaint::NoFile);
+    }
+    Ok(Command::Check(String::from_str(heap, rest)?))
+}
+
 pub(crate) fn read_command(heap: Global, line: &str) -> Result<Command, Complaint> {
     let (word, after) = first_word(line);
     let rest = after.unwrap_or("");
@@ -148,6 +206,10 @@ pub(crate) fn read_command(heap: Global, line: &str) -> Result<Command, Complain
         read_verify(heap, rest)
     } else if word == "ask" {
         Ok(Command::Ask(read_prover(rest)?))
+    } else if word == "sheet" {
+        read_sheet(heap, rest)
+    } else if word == "check" {
+        read_check(heap, rest)
     } else {
         Err(Complaint::Unknown)
     }

@@ -4,9 +4,13 @@
 ghost use Rattle.examples.specs.Table.{Table};
 
 mod questions;
+mod refused;
 
 use anyhow::anyhow;
 use questions::{EXAMPLES, Example, answer_to, word_of};
+use reading::LEAST_RECORDS;
+use records::Record;
+use refused::{REFUSED, Refused, is_refused};
 
 // The examples hold of the definitions, by computing.
 fn table_stands()
@@ -34,8 +38,28 @@ fn show(rt: &HostRuntime, example: Example) -> anyhow::Result<bool> {
     Ok(same)
 }
 
+fn show_refused(
+    rt: &HostRuntime,
+    example: Refused,
+    records: &mut [Record],
+) -> anyhow::Result<bool> {
+    let same = is_refused(example, records);
+    let text = example.text;
+    let word = example.word;
+    let place = example.place;
+    let mark = mark(same);
+    println!(rt; "'{text}': {word} at {place}, {mark}")?;
+    Ok(same)
+}
+
 fn run(rt: &HostRuntime) -> anyhow::Result<()> {
     let mut wrong = 0u32;
+    let mut records = vec![in rt.alloc(); Record::zero(); LEAST_RECORDS]?;
+    for example in REFUSED {
+        if !show_refused(rt, example, &mut records)? {
+            wrong = wrong.saturating_add(1);
+        }
+    }
     for example in EXAMPLES {
         if !show(rt, example)? {
             wrong = wrong.saturating_add(1);
@@ -46,7 +70,7 @@ fn run(rt: &HostRuntime) -> anyhow::Result<()> {
     }
     table_stands();
     let n = EXAMPLES.len();
-    println!(rt; "{n} examples; these and the worked sheets are theorems about the definitions")?;
+    println!(rt; "{n} questions; these and the worked sheets are theorems about the definitions")?;
     Ok(())
 }
 

@@ -2,4 +2,4 @@ pub mod Proposals
 pub mod Derivations
 pub mod Elimination
 pub mod WorkLists
-pub mod FourierMotzkinProverLemmas
+pub mod Lengths

@@ -2,7 +2,7 @@ ghost use Rattle.std.specs.Prelude.{◌≡◌, ◌≤◌, length};
 ghost use Rattle.provers.specs.Elimination.{refutation, fourierMotzkin};
 ghost use Rattle.std.proofs.lemmas.Bool.{and_parts, leb-true};
 ghost use Rattle.rows.specs.Questions.{wellShaped};
-ghost use Rattle.provers.specs.FourierMotzkinProverLemmas.{short-if};
+ghost use Rattle.provers.specs.Lengths.{short-if};
 
 use crate::begin::begin;
 use crate::eliminate::{eliminate_all, first_below};

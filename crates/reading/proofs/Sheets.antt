@@ -1,27 +1,29 @@
 -- A written sheet by its text, tokens and nodes, and what was made of it.
-use Rattle.std.proofs.Common.{◌≡◌, ℕ, ◌≤◌, List, length, take, Option, sym, refl, ap, ◌∙◌, subst, ap₂, arith}
+use Rattle.std.proofs.Common.{◌≡◌, ℕ, ◌≤◌, List, length, take, Option, sym, ap, ◌∙◌, subst, ap₂, arith}
 use Rattle.std.proofs.lemmas.List.{take_all}
 use Rattle.letters.specs.declared.token.Token.{Token}
 use Rattle.grammar.specs.declared.node.Node.{Node}
-use Rattle.grammar.specs.Raw as Raw
 use Rattle.grammar.specs.Parsers.{lookIn}
-use Rattle.grammar.specs.Trees.{look_of, rulesTo}
 use Rattle.syntax.specs.Derives.{DSheet}
 use Rattle.syntax.specs.Weights.{weightOf}
 use Rattle.syntax.proofs.Weighing.{weighs}
-use Rattle.pile.specs.declared.Pile.{Pile}
-use Rattle.pile.specs.Entries.{entries}
 use Rattle.naming.specs.declared.written.Written.{Written}
 use Rattle.naming.specs.Reaches.{sheetOf}
-use Rattle.naming.specs.Sources.{source_of, sheetIn, rulesOf}
+use Rattle.naming.specs.Sources.{sheetIn, rulesOf}
 use Rattle.counting.specs.Counts.{countFault, flatFault}
 use Rattle.counting.proofs.Flat.{flat-fault}
-use Rattle.records.specs.declared.entry.Param.{Param}
-use Rattle.records.specs.declared.entry.Entry.{Entry}
 use Rattle.resolving.specs.Resolving as Resolving
 use Rattle.resolving.specs.Making.{Small, Fit}
-use Rattle.resolving.specs.Growing.{Piles}
-use Rattle.resolving.specs.Ruling.{RulesMade}
+use Rattle.language.specs.Tree.{Rule}
+use Rattle.records.specs.declared.laid.Laid.{Laid}
+use Rattle.records.specs.Columns.{Columns, fresh, no_entry, tables_by, tables_in, params_in, entries_in}
+use Rattle.records.specs.Laying.{columns_of}
+use Rattle.records.specs.Rules.{RulesStand}
+use Rattle.records.proofs.Rules.{rules-length, reads-rules}
+use Rattle.records.proofs.Slots.{length-slots}
+use Rattle.records.proofs.Layings.{stand_in}
+use Rattle.reading.specs.Answers.{Stand}
+use Rattle.resolving.specs.Ruling.{RulesMade, Ample}
 
 -- the sheet is made of these
 pub record Same (w : Written) (text : List ℕ) (tokens : List Token) (nodes : List Node) : Type 0 where
@@ -39,13 +41,28 @@ module _ (w : Written) (text : List ℕ) (tokens : List Token) (nodes : List Nod
   pub same-fit : length tokens ≤ 16384 → ((q : ℕ) → Small (lookIn tokens (length text) q)) → Fit w
   same-fit h f q = subst Small (sym (ap₂ (λ ts e. lookIn ts e q) (same.of-tokens ∙ take_all 16384 tokens h) (ap length same.of-text))) (f q)
 
-  pub same-made : (p : Piles) (ps : Pile Param) (es : Pile Entry) → RulesMade (sheetOf w) (rulesOf w) p ps es → RulesMade (record { text = text; rules = sheetIn text tokens nodes }) (sheetIn text tokens nodes) p ps es
-  same-made p ps es m = subst (λ rs. RulesMade (record { text = text; rules = sheetIn text tokens nodes }) rs p ps es) same-rules (subst (λ S. RulesMade S (rulesOf w) p ps es) same-sheet m)
+  pub same-made : (p : Columns) → RulesMade (sheetOf w) (rulesOf w) p → RulesMade (record { text = text; rules = sheetIn text tokens nodes }) (sheetIn text tokens nodes) p
+  same-made p m = subst (λ rs. RulesMade (record { text = text; rules = sheetIn text tokens nodes }) rs p) same-rules (subst (λ S. RulesMade S (rulesOf w) p) same-sheet m)
 
-  pub same-fault : (r : Option ℕ) (p : Piles) (ps : Pile Param) (es : Pile Entry) → RulesMade (record { text = text; rules = sheetIn text tokens nodes }) (sheetIn text tokens nodes) p ps es → r ≡ flatFault (length w.text.now) (rulesOf w) (entries p.nodes) (entries p.conditions) → r ≡ countFault (length text) (sheetIn text tokens nodes) (Resolving.sheetOf text (sheetIn text tokens nodes))
-  same-fault r p ps es m e =
-      e ∙ ap₂ (λ n rs. flatFault n rs (entries p.nodes) (entries p.conditions)) (ap length same.of-text) same-rules
-      ∙ flat-fault (length text) (sheetIn text tokens nodes) (Resolving.sheetOf text (sheetIn text tokens nodes)) (entries p.nodes) (entries p.conditions) m.exprs m.claims
+  pub same-fault : (r : Option ℕ) (p : Columns) → RulesMade (record { text = text; rules = sheetIn text tokens nodes }) (sheetIn text tokens nodes) p → r ≡ flatFault (length w.text.now) (rulesOf w) p.nodes.entries p.conditions.entries → r ≡ countFault (length text) (sheetIn text tokens nodes) (Resolving.sheetOf text (sheetIn text tokens nodes))
+  same-fault r p m e =
+      e ∙ ap₂ (λ n rs. flatFault n rs p.nodes.entries p.conditions.entries) (ap length same.of-text) same-rules
+      ∙ flat-fault (length text) (sheetIn text tokens nodes) (Resolving.sheetOf text (sheetIn text tokens nodes)) p.nodes.entries p.conditions.entries m.exprs m.claims
 
   pub light : length tokens ≤ 16384 → DSheet (lookIn tokens (length text)) (sheetIn text tokens nodes) → weightOf (rulesOf w) ≤ 16384
   light h d = let e = ap weightOf same-rules in let k = weighs tokens (length text) (sheetIn text tokens nodes) d in omega arith
+
+-- fresh tables have room for all that 16,384 tokens can stand for
+pub ample : (w records lender : ℕ) (p : Columns) → p ≡ fresh records lender → w ≤ 16384 → 4096 ≤ records → Ample w p
+ample w records lender p e h k = subst (Ample w) (sym e) (record { nodes = omega arith; conditions = omega arith; items = omega arith; params = omega arith; rules = omega arith })
+
+-- what stands in tables that were laid stands in their records
+pub stands : (t : Laid) (n : ℕ) (rules : List Rule) → RulesStand (tables_by (columns_of t)) (columns_of t).params.entries 0 (columns_of t).entries.entries rules → n ≡ length (columns_of t).entries.entries → Stand t.records.now n rules
+stands t n rules s e =
+    let r = t.records.now in
+    let k : n ≡ t.entries = e ∙ length-slots (λ r. r.entries) no_entry r t.entries in
+    let a : RulesStand (tables_in r) (params_in r) 0 (entries_in r n) rules = subst (λ m. RulesStand (tables_in r) (params_in r) 0 (entries_in r m) rules) (sym k) (stand_in t 0 rules s) in record {
+      count = e ∙ rules-length (tables_by (columns_of t)) (columns_of t).params.entries 0 (columns_of t).entries.entries rules s;
+      stand = a;
+      reads = reads-rules (tables_in r) (params_in r) 0 (entries_in r n) rules a;
+    }

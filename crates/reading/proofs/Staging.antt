@@ -1,15 +1,13 @@
 -- From stage to stage: the tokens that were cut, and the sheet that was parsed.
-use Rattle.std.proofs.Common.{◌≡◌, ℕ, ◌+◌, ◌-◌, ◌<◌, ◌≤◌, ⊎_elim, Bool, true, false, cond, leb, ◌⊎◌, List, [], ◌∷◌, ◌++◌, length, get_or, take, drop, ℤ, Some, None, Ok, Err, Option, Result, sym, refl, ap, ◌∙◌, subst, ap₂, inl, inr, arith, le-leb, leb-true}
+use Rattle.std.proofs.Common.{◌≡◌, ℕ, ◌-◌, ◌≤◌, ⊎_elim, true, List, [], length, get_or, take, drop, ℤ, Some, None, Ok, Err, Option, Result, sym, refl, ap, ◌∙◌, subst, ap₂, inl, inr, arith, leb-true}
 use Rattle.std.proofs.lemmas.List.{take_all, take_at, take-append-drop, length-take-le, get_or_past}
 use Rattle.std.proofs.ByRecursion.{All-get_or}
-use Rattle.std.proofs.lemmas.Bool.{cases_lt}
-use Rattle.std.specs.List.{AllByRecursion}
+use Rattle.std.proofs.lemmas.Bool.{cases_lt, and_parts}
 use Rattle.letters.specs.declared.kind.Kind.TheVariants.{End}
 use Rattle.letters.specs.declared.token.Token.{Token}
 use Rattle.letters.specs.declared.misspelt.Misspelt.{Misspelt}
-use Rattle.letters.specs.declared.misspelt.Misspelt.TheVariants.{Length}
 use Rattle.letters.specs.Tokens.{tokenOf, bytes_of}
-use Rattle.letters.specs.Cuts.{Cut, cut_of, cutFrom, answer, answerBy, laid}
+use Rattle.letters.specs.Cuts.{Cut, cut_of, answer, answerBy, laid}
 use Rattle.letters.specs.Spelling.{Reads}
 use Rattle.letters.specs.Standing as Standing
 use Rattle.letters.proofs.Places.{reads-stand, spelt-small}
@@ -19,19 +17,15 @@ use Rattle.grammar.specs.declared.unread.Unread.TheVariants.{Full, Fault}
 use Rattle.grammar.specs.Raw as Raw
 use Rattle.grammar.specs.Parsers.{lookIn}
 use Rattle.grammar.specs.Parsed.{source_of, Parsed}
-use Rattle.grammar.specs.Trees.{Source, rulesTo}
+use Rattle.grammar.specs.Trees.{rulesTo}
 use Rattle.grammar.proofs.Parts.{rules-front}
 use Rattle.syntax.specs.Lawful.{OnlySheet, NoSheet, Lawful}
-use Rattle.syntax.specs.Weights.{weightOf}
 use Rattle.naming.specs.Sources.{sheetIn}
 use Rattle.resolving.specs.Making.{Small}
-use Rattle.resolving.specs.Growing.{Piles}
 use Rattle.language.specs.declared.refusal.Refusal.{Refusal}
-use Rattle.pile.specs.declared.Pile.{Pile}
-use Rattle.records.specs.declared.entry.Param.{Param}
-use Rattle.records.specs.declared.entry.Entry.{Entry}
+use Rattle.records.specs.declared.record.Record.{Record}
 use Rattle.resolving.specs.Resolving.{sheetOf}
-use Rattle.reading.specs.Answers.{Answer, Checked}
+use Rattle.reading.specs.Answers.{Staged, Checked}
 use Rattle.reading.specs.Reading as Reading
 use Rattle.reading.specs.Reading.{in_range, misspelling, misreading, tokensOf, misspelt, no-sheet}
 
@@ -48,6 +42,10 @@ answer_err (Some v) w m e = cc
 
 pub cut-err : (c : Cut) (w : Misspelt) → Err w ≡ answer c → c.fault ≡ Some w
 cut-err c w e = answer_err c.fault w (length c.tokens) e
+
+-- there are records enough
+pub enough : (low high : ℤ) (records : ℕ) → in_range low high records ≡ true → 4096 ≤ records
+enough low high records i = leb-true 4096 records (and_parts _ _ (and_parts _ _ i).1).1
 
 -- the tokens at the front
 pub front : (ts old all : List Token) (n : ℕ) → all ≡ laid ts old → n ≡ length ts → take (n - 0) all ≡ ts
@@ -82,17 +80,12 @@ refused-by-grammar text low high records Full ts ns room i c e h p l = absurd (l
 refused-by-grammar text low high records (Fault q) ts ns room i c e h p l = no-sheet i c (subst (λ xs. NoSheet (lookIn xs (length text)) q) e l)
 
 -- what names and counts say is the answer, where the stages before them passed
-pub checked-answers : (r : Result (Unit {0}) Refusal) (text : List ℕ) (low high : ℤ) (records : ℕ) (sheet : Raw.Sheet) (p : Piles) (ps : Pile Param) (es : Pile Entry) → in_range low high records ≡ true → (cut_of text).fault ≡ None → OnlySheet (tokensOf text) sheet → weightOf sheet ≤ 16384 → Checked r text sheet p ps es → Answer r text low high records p ps es
-checked-answers (Ok u) text low high records sheet p ps es i c o w k = record {
+pub checked-answers : (r : Result ℕ Refusal) (text : List ℕ) (low high : ℤ) (count : ℕ) (sheet : Raw.Sheet) (records : List Record) → in_range low high count ≡ true → count ≡ length records → (cut_of text).fault ≡ None → OnlySheet (tokensOf text) sheet → Checked r text sheet records → Staged r text low high count records
+checked-answers (Ok n) text low high count sheet records i l c o k = record {
   rules = sheetOf text sheet;
-  reads = Reading.read i c o k.named k.counted;
-  stand = k.made.stand;
-  nodes = omega (arith, k.made.nodes);
-  conditions = omega (arith, k.made.conditions);
-  items = omega (arith, k.made.items);
-  params = omega (arith, k.made.params);
-  entries-few = omega (arith, k.made.rules);
+  reads = Reading.read (subst (λ m. in_range low high m ≡ true) l i) c o k.named k.counted;
+  stand = k.stand;
 }
-checked-answers (Err r) text low high records sheet p ps es i c o w (place, k) =
-    let P : Refusal → Type 0 = λ r. Reading.Reads text low high records (Err r) in
+checked-answers (Err r) text low high count sheet records i l c o (place, k) =
+    let P : Refusal → Type 0 = λ r. Reading.Reads text low high count (Err r) in
     ⊎_elim (λ (e, n). subst P (sym e) (Reading.misnamed i c o n)) (λ (e, n, f). subst P (sym e) (Reading.too_many i c o n f)) k

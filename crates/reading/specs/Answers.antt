@@ -1,42 +1,46 @@
--- What an answer of the code says of the tables after it.
-use Rattle.std.specs.Prelude.{◌≡◌, ℕ, ◌≤◌, ◌⊎◌, List, length, ℤ, Some, None, Ok, Err, Result}
+-- What an answer says of the records after it.
+use Rattle.std.specs.Prelude.{◌≡◌, ℕ, ◌⊎◌, List, length, replicate, ℤ, Some, None, Ok, Err, Result}
 use Rattle.language.specs.declared.refusal.Refusal.{Refusal}
 use Rattle.language.specs.declared.refusal.Refusal.TheVariants.{Name, Full}
+use Rattle.language.specs.Tree.{Rule}
 use Rattle.grammar.specs.Raw as Raw
 use Rattle.naming.specs.Faults.{nameFault}
 use Rattle.counting.specs.Counts.{countFault}
 use Rattle.resolving.specs.Resolving.{sheetOf}
-use Rattle.resolving.specs.Ruling.{RulesMade}
-use Rattle.language.specs.Tree.{Rule}
-use Rattle.pile.specs.declared.Pile.{Pile}
-use Rattle.pile.specs.Entries.{entries, room}
-use Rattle.records.specs.declared.entry.Param.{Param}
-use Rattle.records.specs.declared.entry.Entry.{Entry}
+use Rattle.records.specs.declared.record.Record.{Record}
+use Rattle.records.specs.Columns.{zero_record, tables_in, params_in, entries_in}
+use Rattle.records.specs.Trees.{rulesIn}
 use Rattle.records.specs.Rules.{RulesStand}
-use Rattle.resolving.specs.Growing.{Piles, tablesBy}
 use Rattle.reading.specs.Reading.{Reads}
 
--- the rules that the text stands for stand in the tables, none of which has more than 16,384 entries
-pub record Stood (text : List ℕ) (low high : ℤ) (records : ℕ) (p : Piles) (ps : Pile Param) (es : Pile Entry) : Type 0 where
+-- so many rules stand in the records: each part of a tree lies below its node, no two parts share a node, and reading the tables gives the rules
+pub record Stand (records : List Record) (n : ℕ) (rules : List Rule) : Type 0 where
+  pub count : n ≡ length rules
+  pub stand : RulesStand (tables_in records) (params_in records) 0 (entries_in records n) rules
+  pub reads : rulesIn (tables_in records) (params_in records) (entries_in records n) ≡ rules
+
+-- the rules that the text stands for stand in the records
+pub record Stood (text : List ℕ) (low high : ℤ) (n : ℕ) (records : List Record) : Type 0 where
   pub rules : List Rule
-  pub reads : Reads text low high records (Ok rules)
-  pub stand : RulesStand (tablesBy p) (entries ps) (entries es) rules
-  pub nodes : length (entries p.nodes) ≤ 16384
-  pub conditions : length (entries p.conditions) ≤ 16384
-  pub items : length (entries p.items) ≤ 16384
-  pub params : length (entries ps) ≤ 16384
-  pub entries-few : length (entries es) ≤ 16384
+  pub reads : Reads text low high (length records) (Ok rules)
+  pub stand : Stand records n rules
 
-abbrev pub Answer : Result (Unit {0}) Refusal → List ℕ → ℤ → ℤ → ℕ → Piles → Pile Param → Pile Entry → Type 0
-Answer (Ok u) text low high records p ps es = Stood text low high records p ps es
-Answer (Err r) text low high records p ps es = Reads text low high records (Err r)
+-- an answer is that of reading; a refusal leaves every record zero
+abbrev pub Answer : Result ℕ Refusal → List ℕ → ℤ → ℤ → List Record → List Record → Type 0
+Answer (Ok n) text low high old new = Stood text low high n new
+Answer (Err r) text low high old new = Reads text low high (length old) (Err r) × (new ≡ replicate (length old) zero_record)
 
--- what names and counts say of a written sheet; where both pass, its rules stand in the tables
-pub record Counted (text : List ℕ) (sheet : Raw.Sheet) (p : Piles) (ps : Pile Param) (es : Pile Entry) : Type 0 where
+-- the same, but for what a refusal leaves
+abbrev pub Staged : Result ℕ Refusal → List ℕ → ℤ → ℤ → ℕ → List Record → Type 0
+Staged (Ok n) text low high count records = Stood text low high n records
+Staged (Err r) text low high count records = Reads text low high count (Err r)
+
+-- what names and counts say of a written sheet; where both pass, its rules stand in the records
+pub record Counted (text : List ℕ) (sheet : Raw.Sheet) (n : ℕ) (records : List Record) : Type 0 where
   pub named : nameFault text sheet ≡ None
   pub counted : countFault (length text) sheet (sheetOf text sheet) ≡ None
-  pub made : RulesMade (record { text = text; rules = sheet }) sheet p ps es
+  pub stand : Stand records n (sheetOf text sheet)
 
-abbrev pub Checked : Result (Unit {0}) Refusal → List ℕ → Raw.Sheet → Piles → Pile Param → Pile Entry → Type 0
-Checked (Ok u) text sheet p ps es = Counted text sheet p ps es
-Checked (Err r) text sheet p ps es = (place : ℕ) × (((r ≡ Name place) × (nameFault text sheet ≡ Some place)) ⊎ ((r ≡ Full place) × (nameFault text sheet ≡ None) × (countFault (length text) sheet (sheetOf text sheet) ≡ Some place)))
+abbrev pub Checked : Result ℕ Refusal → List ℕ → Raw.Sheet → List Record → Type 0
+Checked (Ok n) text sheet records = Counted text sheet n records
+Checked (Err r) text sheet records = (place : ℕ) × (((r ≡ Name place) × (nameFault text sheet ≡ Some place)) ⊎ ((r ≡ Full place) × (nameFault text sheet ≡ None) × (countFault (length text) sheet (sheetOf text sheet) ≡ Some place)))

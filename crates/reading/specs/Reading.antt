@@ -1,6 +1,5 @@
 -- Reading a sheet: the stages in their order, each with its refusal.
-use Rattle.std.specs.Prelude.{◌≡◌, ℕ, Bool, true, false, ◌&&◌, List, length, ℤ, pos, Some, None, Ok, Err, Option, Result, int_le, nat_le}
-use Rattle.letters.specs.declared.token.Token.{Token}
+use Rattle.std.specs.Prelude.{◌≡◌, ℕ, Bool, true, false, ◌&&◌, List, length, ℤ, pos, Some, None, Ok, Err, Result, int_le, nat_le}
 use Rattle.letters.specs.declared.misspelt.Misspelt.{Misspelt}
 use Rattle.letters.specs.declared.misspelt.Misspelt.TheVariants as Misspelts
 use Rattle.letters.specs.Cuts.{cut_of}

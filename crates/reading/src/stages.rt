@@ -1,22 +1,17 @@
 ghost use Rattle.std.specs.Prelude.{◌≡◌, ℕ, ◌≤◌, length};
-ghost use Rattle.pile.specs.Entries.{entries, room};
 ghost use Rattle.reading.specs.Reading.{in_range, misspelling, misreading};
 ghost use Rattle.grammar.specs.Parsers.{lookIn};
-ghost use Rattle.grammar.specs.Trees.{rulesTo};
 ghost use Rattle.naming.specs.Sources.{sheetIn};
 ghost use Rattle.syntax.specs.Derives.{DSheet};
 ghost use Rattle.resolving.specs.Making.{Small};
-ghost use Rattle.reading.specs.Answers.{Answer, Checked};
-ghost use Rattle.resolving.specs.Growing.{piles};
-ghost use Rattle.resolving.specs.Ruling.{Ample};
+ghost use Rattle.reading.specs.Answers.{Answer, Staged, Checked};
 
 use counting::count_fault;
 use grammar::{Node as Raw, Unread};
 use language::Refusal;
 use letters::{Misspelt, Token, cut};
 use naming::{Written, name_fault};
-use pile::Pile;
-use records::{Condition, Entry, Item, Node, Param};
+use records::{Laid, Record, clear};
 use resolving::resolve;
 use syntax::parse;
 
@@ -50,50 +45,36 @@ fn misreading(why: Unread) -> Refusal
     }
 }
 
-// Names, then counts; where both pass, the rules stand in the tables.
-fn names_then_counts<'t>(
-    text: &'t [u8],
-    tokens: &'t [Token],
-    raw: &'t [Raw],
-    nodes: &mut Pile<'_, Node>,
-    conditions: &mut Pile<'_, Condition>,
-    items: &mut Pile<'_, Item>,
-    params: &mut Pile<'_, Param>,
-    table: &mut Pile<'_, Entry>,
-) -> Result<(), Refusal>
+// Names, then counts; where both pass, the rules stand in the records, and how many there are is given.
+fn names_then_counts(
+    text: &[u8],
+    tokens: &[Token],
+    raw: &[Raw],
+    records: &mut [Record],
+) -> Result<usize, Refusal>
     requires small { (q : ℕ) → Small (lookIn tokens.now (length text.now) q) }
     requires few { length tokens.now ≤ 16384 }
     requires derived { DSheet (lookIn tokens.now (length text.now)) (sheetIn text.now tokens.now raw.now) }
-    requires ample { Ample 16384 (piles nodes.old conditions.old items.old) params.old table.old }
-    ensures { Checked result text.now (sheetIn text.now tokens.now raw.now) (piles nodes.new conditions.new items.new) params.new table.new }
+    requires ample { 4096 ≤ length records.old }
+    ensures { Checked result text.now (sheetIn text.now tokens.now raw.now) records.new }
 {
     if let Some(place) = name_fault(text, tokens, raw) {
         return Err(Refusal::Name { place });
     }
     let sheet = Written::new(text, tokens, raw);
-    resolve(sheet, nodes, conditions, items, params, table);
-    match count_fault(sheet, nodes.as_slice(), conditions.as_slice()) {
+    let mut tables = Laid::over(records);
+    resolve(sheet, &mut tables);
+    match count_fault(sheet, &tables) {
         Some(place) => Err(Refusal::Full { place }),
-        None => Ok(()),
+        None => Ok(tables.entries()),
     }
 }
 
-// Reads a text in a range, with so many records: the rules that it stands for stand in the tables then, or the first stage at fault refuses.
-pub fn read(
-    text: &[u8],
-    low: i32,
-    high: i32,
-    records: usize,
-    nodes: &mut Pile<'_, Node>,
-    conditions: &mut Pile<'_, Condition>,
-    items: &mut Pile<'_, Item>,
-    params: &mut Pile<'_, Param>,
-    table: &mut Pile<'_, Entry>,
-) -> Result<(), Refusal>
-    requires { Ample 16384 (piles nodes.old conditions.old items.old) params.old table.old }
-    ensures { Answer result text.now low high records (piles nodes.new conditions.new items.new) params.new table.new }
+// The stages in their order, up to the first that refuses.
+fn stages(text: &[u8], low: i32, high: i32, records: &mut [Record]) -> Result<usize, Refusal>
+    ensures { Staged result text.now low high (length records.old) records.new }
 {
-    if !in_range(low, high, records) {
+    if !in_range(low, high, records.len()) {
         return Err(Refusal::Range);
     }
     let mut tokens = [Token::end(0); 16384];
@@ -106,14 +87,16 @@ pub fn read(
         Ok(made) => made,
         Err(why) => return Err(misreading(why)),
     };
-    names_then_counts(
-        text,
-        &tokens[0..count],
-        &raw[0..made],
-        nodes,
-        conditions,
-        items,
-        params,
-        table,
-    )
+    names_then_counts(text, &tokens[0..count], &raw[0..made], records)
+}
+
+// Reads a text in a range into records: the rules that it stands for stand there then, and how many there are is given; or the first stage at fault refuses, and every record is zero.
+pub fn read(text: &[u8], low: i32, high: i32, records: &mut [Record]) -> Result<usize, Refusal>
+    ensures { Answer result text.now low high records.old records.new }
+{
+    let answer = stages(text, low, high, records);
+    if answer.is_err() {
+        clear(records);
+    }
+    answer
 }

@@ -83,21 +83,57 @@ at_on : (s t : Tables) (at : ℕ) (n : Node) → Grows s t → slice_get s.nodes
 at_on s t at n g e = ap (λ xs. slice_get xs at) g.nodes.1 ∙ nth-front s.nodes g.nodes.0 at n e
 
 mutual
-  pub stands_on : (s t : Tables) (at : ℕ) (e : Expr) → Grows s t → Stands s at e → Stands t at e
-  stands_on s t at e g (num h) = num (at_on s t at _ g h)
-  stands_on s t at e g (name h) = name (at_on s t at _ g h)
-  stands_on s t at e g (calc h a b x y) = calc (at_on s t at _ g h) a b (stands_on s t _ _ g x) (stands_on s t _ _ g y)
-  stands_on s t at e g (read h a x) = read (at_on s t at _ g h) a (stands_on s t _ _ g x)
-  stands_on s t at e g (call h a x) = call (at_on s t at _ g h) a (args-on s t _ _ g x)
-  stands_on s t at e g (bind h a b x y) = bind (at_on s t at _ g h) a b (stands_on s t _ _ g x) (stands_on s t _ _ g y)
-  stands_on s t at e g (test h a b c d x y u v) = test (at_on s t at _ g h) a b c d (stands_on s t _ _ g x) (stands_on s t _ _ g y) (stands_on s t _ _ g u) (stands_on s t _ _ g v)
-  stands_on s t at e g (put h a b c x y u) = put (at_on s t at _ g h) a b c (stands_on s t _ _ g x) (stands_on s t _ _ g y) (stands_on s t _ _ g u)
-  stands_on s t at e g (claim h a x l) = claim (at_on s t at _ g h) a (stands_on s t _ _ g x) (listed-on s t _ _ _ g l)
+  pub stands_on : (s t : Tables) (lo at : ℕ) (e : Expr) → Grows s t → Stands s lo at e → Stands t lo at e
+  stands_on s t lo at e g (num h l) = num (at_on s t at _ g h) l
+  stands_on s t lo at e g (name h l) = name (at_on s t at _ g h) l
+  stands_on s t lo at e g (calc h a b x y) = calc (at_on s t at _ g h) a b (stands_on s t _ _ _ g x) (stands_on s t _ _ _ g y)
+  stands_on s t lo at e g (read h a x) = read (at_on s t at _ g h) a (stands_on s t _ _ _ g x)
+  stands_on s t lo at e g (call h a x) = call (at_on s t at _ g h) a (args-on s t _ _ _ g x)
+  stands_on s t lo at e g (bind h a b x y) = bind (at_on s t at _ g h) a b (stands_on s t _ _ _ g x) (stands_on s t _ _ _ g y)
+  stands_on s t lo at e g (test h a b c d x y u v) = test (at_on s t at _ g h) a b c d (stands_on s t _ _ _ g x) (stands_on s t _ _ _ g y) (stands_on s t _ _ _ g u) (stands_on s t _ _ _ g v)
+  stands_on s t lo at e g (put h a b c x y u) = put (at_on s t at _ g h) a b c (stands_on s t _ _ _ g x) (stands_on s t _ _ _ g y) (stands_on s t _ _ _ g u)
+  stands_on s t lo at e g (claim h a x l) = claim (at_on s t at _ g h) a (stands_on s t _ _ _ g x) (listed-on s t _ _ _ g l)
 
-  pub args-on : (s t : Tables) (at : ℕ) (xs : Args) → Grows s t → ArgsStand s at xs → ArgsStand t at xs
-  args-on s t at xs g (end h) = end (at_on s t at _ g h)
-  args-on s t at xs g (value h a b x y) = value (at_on s t at _ g h) a b (stands_on s t _ _ g x) (args-on s t _ _ g y)
-  args-on s t at xs g (lent h b y) = lent (at_on s t at _ g h) b (args-on s t _ _ g y)
+  pub args-on : (s t : Tables) (lo at : ℕ) (xs : Args) → Grows s t → ArgsStand s lo at xs → ArgsStand t lo at xs
+  args-on s t lo at xs g (end h l) = end (at_on s t at _ g h) l
+  args-on s t lo at xs g (value h a b x y) = value (at_on s t at _ g h) a b (args-on s t _ _ _ g x) (stands_on s t _ _ _ g y)
+  args-on s t lo at xs g (lent h b y) = lent (at_on s t at _ g h) b (args-on s t _ _ _ g y)
+
+-- the lower end is no higher than the position
+mutual
+  pub low_end : (t : Tables) (lo at : ℕ) (e : Expr) → Stands t lo at e → lo ≤ at
+  low_end t lo at e (num h l) = l
+  low_end t lo at e (name h l) = l
+  low_end t lo at e (calc h a b x y) = let l = low_end t _ _ _ x in omega arith
+  low_end t lo at e (read h a x) = let l = low_end t _ _ _ x in omega arith
+  low_end t lo at e (call h a x) = let l = args-low-end t _ _ _ x in omega arith
+  low_end t lo at e (bind h a b x y) = let l = low_end t _ _ _ x in omega arith
+  low_end t lo at e (test h a b c d x y u v) = let l = low_end t _ _ _ x in omega arith
+  low_end t lo at e (put h a b c x y u) = let l = low_end t _ _ _ x in omega arith
+  low_end t lo at e (claim h a x l) = let l = low_end t _ _ _ x in omega arith
+
+  pub args-low-end : (t : Tables) (lo at : ℕ) (xs : Args) → ArgsStand t lo at xs → lo ≤ at
+  args-low-end t lo at xs (end h l) = l
+  args-low-end t lo at xs (value h a b x y) = let l = args-low-end t _ _ _ x in omega arith
+  args-low-end t lo at xs (lent h b y) = let l = args-low-end t _ _ _ y in omega arith
+
+-- what lies from a position on lies from any lower one on
+mutual
+  pub wider : (t : Tables) (l lo at : ℕ) (e : Expr) → l ≤ lo → Stands t lo at e → Stands t l at e
+  wider t l lo at e k (num h m) = num h (omega arith)
+  wider t l lo at e k (name h m) = name h (omega arith)
+  wider t l lo at e k (calc h a b x y) = calc h a b (wider t l _ _ _ k x) y
+  wider t l lo at e k (read h a x) = read h a (wider t l _ _ _ k x)
+  wider t l lo at e k (call h a x) = call h a (args-wider t l _ _ _ k x)
+  wider t l lo at e k (bind h a b x y) = bind h a b (wider t l _ _ _ k x) y
+  wider t l lo at e k (test h a b c d x y u v) = test h a b c d (wider t l _ _ _ k x) y u v
+  wider t l lo at e k (put h a b c x y u) = put h a b c (wider t l _ _ _ k x) y u
+  wider t l lo at e k (claim h a x m) = claim h a (wider t l _ _ _ k x) m
+
+  pub args-wider : (t : Tables) (l lo at : ℕ) (xs : Args) → l ≤ lo → ArgsStand t lo at xs → ArgsStand t l at xs
+  args-wider t l lo at xs k (end h m) = end h (omega arith)
+  args-wider t l lo at xs k (value h a b x y) = value h a b (args-wider t l _ _ _ k x) y
+  args-wider t l lo at xs k (lent h b y) = lent h b (args-wider t l _ _ _ k y)
 
 -- what stands is what is read
 node-below : (t : Tables) (top at : ℕ) (n : Node) → at < top → slice_get t.nodes at ≡ Some n → Some n ≡ nodeIn top t.nodes at
@@ -110,20 +146,20 @@ args-from : (t : Tables) (top at : ℕ) (n : Node) → at < top → slice_get t.
 args-from t top at n h e = ap (λ (p : Part). p.args) (step-at (readerOf t) top t.nodes at (Some n) (node-below t top at n h e))
 
 mutual
-  pub reads-expr : (t : Tables) (top at : ℕ) (e : Expr) → at < top → Stands t at e → exprIn t top at ≡ e
-  reads-expr t top at _ h (num e) = expr-from t top at _ h e
-  reads-expr t top at _ h (name e) = expr-from t top at _ h e
-  reads-expr t top at _ h (calc {p = p} {a = i} {b = j} {o = o} {x = u} {y = v} e a b x y) = expr-from t top at _ h e ∙ ap₂ (Tree.calc p o) (reads-expr t at i u a x) (reads-expr t at j v b y)
-  reads-expr t top at _ h (read {a = i} {s = s} {x = u} e a x) = expr-from t top at _ h e ∙ ap (Tree.read s) (reads-expr t at i u a x)
-  reads-expr t top at _ h (call {p = p} {f = f} {a = i} {xs = u} e a x) = expr-from t top at _ h e ∙ ap (Tree.call p f) (reads-args t at i u a x)
-  reads-expr t top at _ h (bind {p = p} {a = i} {b = j} {x = u} {y = v} e a b x y) = expr-from t top at _ h e ∙ ap₂ (Tree.bind p) (reads-expr t at i u a x) (reads-expr t at j v b y)
-  reads-expr t top at _ h (test {p = p} {a = i} {b = j} {d = k} {e = l} {c = c} {x = u} {y = v} {u = w} {v = z} e a b d f x y g m) =
-      expr-from t top at _ h e ∙ ap₂ (λ m n. Tree.test p c m n (exprIn t at k) (exprIn t at l)) (reads-expr t at i u a x) (reads-expr t at j v b y) ∙ ap₂ (Tree.test p c u v) (reads-expr t at k w d g) (reads-expr t at l z f m)
-  reads-expr t top at _ h (put {p = p} {a = i} {b = j} {e = k} {s = s} {x = u} {y = v} {u = w} e a b c x y g) =
-      expr-from t top at _ h e ∙ ap₂ (λ m n. Tree.put p s m n (exprIn t at k)) (reads-expr t at i u a x) (reads-expr t at j v b y) ∙ ap (Tree.put p s u v) (reads-expr t at k w c g)
-  reads-expr t top at _ h (claim {p = p} {a = i} {x = u} e a x l) = expr-from t top at _ h e ∙ ap₂ (Tree.claim p) (reads-expr t at i u a x) l.reads
+  pub reads-expr : (t : Tables) (top lo at : ℕ) (e : Expr) → at < top → Stands t lo at e → exprIn t top at ≡ e
+  reads-expr t top lo at _ h (num e l) = expr-from t top at _ h e
+  reads-expr t top lo at _ h (name e l) = expr-from t top at _ h e
+  reads-expr t top lo at _ h (calc {p = p} {a = i} {b = j} {o = o} {x = u} {y = v} e a b x y) = expr-from t top at _ h e ∙ ap₂ (Tree.calc p o) (reads-expr t at _ i u a x) (reads-expr t at _ j v b y)
+  reads-expr t top lo at _ h (read {a = i} {s = s} {x = u} e a x) = expr-from t top at _ h e ∙ ap (Tree.read s) (reads-expr t at _ i u a x)
+  reads-expr t top lo at _ h (call {p = p} {f = f} {a = i} {xs = u} e a x) = expr-from t top at _ h e ∙ ap (Tree.call p f) (reads-args t at _ i u a x)
+  reads-expr t top lo at _ h (bind {p = p} {a = i} {b = j} {x = u} {y = v} e a b x y) = expr-from t top at _ h e ∙ ap₂ (Tree.bind p) (reads-expr t at _ i u a x) (reads-expr t at _ j v b y)
+  reads-expr t top lo at _ h (test {p = p} {a = i} {b = j} {d = k} {e = l} {c = c} {x = u} {y = v} {u = w} {v = z} e a b d f x y g m) =
+      expr-from t top at _ h e ∙ ap₂ (λ m n. Tree.test p c m n (exprIn t at k) (exprIn t at l)) (reads-expr t at _ i u a x) (reads-expr t at _ j v b y) ∙ ap₂ (Tree.test p c u v) (reads-expr t at _ k w d g) (reads-expr t at _ l z f m)
+  reads-expr t top lo at _ h (put {p = p} {a = i} {b = j} {e = k} {s = s} {x = u} {y = v} {u = w} e a b c x y g) =
+      expr-from t top at _ h e ∙ ap₂ (λ m n. Tree.put p s m n (exprIn t at k)) (reads-expr t at _ i u a x) (reads-expr t at _ j v b y) ∙ ap (Tree.put p s u v) (reads-expr t at _ k w c g)
+  reads-expr t top lo at _ h (claim {p = p} {a = i} {x = u} e a x l) = expr-from t top at _ h e ∙ ap₂ (Tree.claim p) (reads-expr t at _ i u a x) l.reads
 
-  pub reads-args : (t : Tables) (top at : ℕ) (xs : Args) → at < top → ArgsStand t at xs → argsIn t top at ≡ xs
-  reads-args t top at _ h (end e) = args-from t top at _ h e
-  reads-args t top at _ h (value {a = i} {b = j} {x = u} {xs = v} e a b x y) = args-from t top at _ h e ∙ ap₂ Tree.value (reads-expr t at i u a x) (reads-args t at j v b y)
-  reads-args t top at _ h (lent {l = l} {b = j} {xs = v} e b y) = args-from t top at _ h e ∙ ap (Tree.lent l) (reads-args t at j v b y)
+  pub reads-args : (t : Tables) (top lo at : ℕ) (xs : Args) → at < top → ArgsStand t lo at xs → argsIn t top at ≡ xs
+  reads-args t top lo at _ h (end e l) = args-from t top at _ h e
+  reads-args t top lo at _ h (value {a = i} {b = j} {x = u} {xs = v} e a b y x) = args-from t top at _ h e ∙ ap₂ Tree.value (reads-expr t at _ i u a x) (reads-args t at _ j v b y)
+  reads-args t top lo at _ h (lent {l = l} {b = j} {xs = v} e b y) = args-from t top at _ h e ∙ ap (Tree.lent l) (reads-args t at _ j v b y)

@@ -3,3 +3,6 @@ pub mod Trees
 pub mod Standing
 pub mod Counting
 pub mod Rules
+pub mod Fours
+pub mod Columns
+pub mod Laying

@@ -1,5 +1,5 @@
 -- Trees that stand in tables. What stands still stands when tables grow.
-use Rattle.std.specs.Prelude.{◌≡◌, ℕ, ◌<◌, ◌≤◌, List, ◌++◌, length, Some}
+use Rattle.std.specs.Prelude.{◌≡◌, ℕ, suc, ◌<◌, ◌≤◌, List, ◌++◌, length, Some}
 use Rattle.std.specs.List.{AllByRecursion, slice_get}
 use Rattle.language.specs.declared.sign.Operator.{Operator}
 use Rattle.language.specs.declared.sign.Comparison.{Comparison}
@@ -20,23 +20,23 @@ pub record Listed (t : Tables) (from to : ℕ) (cs : List Tree.Condition) : Type
   pub reads : conditionsIn t.items t.conditions from to ≡ cs
 
 mutual
-  -- this expression stands at a position
-  pub data Stands (t : Tables) : ℕ → Expr → Type 0 where
-    num : {at p n : ℕ} → slice_get t.nodes at ≡ Some (Num p n) → Stands t at (Tree.num p n)
-    name : {at p i : ℕ} → slice_get t.nodes at ≡ Some (Name p i) → Stands t at (Tree.name p i)
-    calc : {at p a b : ℕ} {o : Operator} {x y : Expr} → slice_get t.nodes at ≡ Some (Calc p o a b) → a < at → b < at → Stands t a x → Stands t b y → Stands t at (Tree.calc p o x y)
-    read : {at a : ℕ} {s : Site} {x : Expr} → slice_get t.nodes at ≡ Some (Read s.place s.number s.list a) → a < at → Stands t a x → Stands t at (Tree.read s x)
-    call : {at p f a : ℕ} {xs : Args} → slice_get t.nodes at ≡ Some (Call p f a) → a < at → ArgsStand t a xs → Stands t at (Tree.call p f xs)
-    bind : {at p a b : ℕ} {x y : Expr} → slice_get t.nodes at ≡ Some (Bind p a b) → a < at → b < at → Stands t a x → Stands t b y → Stands t at (Tree.bind p x y)
-    test : {at p a b d e : ℕ} {c : Comparison} {x y u v : Expr} → slice_get t.nodes at ≡ Some (Test p c a b d e) → a < at → b < at → d < at → e < at → Stands t a x → Stands t b y → Stands t d u → Stands t e v → Stands t at (Tree.test p c x y u v)
-    put : {at p a b e : ℕ} {s : Site} {x y u : Expr} → slice_get t.nodes at ≡ Some (Put p s.place s.number s.list a b e) → a < at → b < at → e < at → Stands t a x → Stands t b y → Stands t e u → Stands t at (Tree.put p s x y u)
-    claim : {at p a from to : ℕ} {x : Expr} {cs : List Tree.Condition} → slice_get t.nodes at ≡ Some (Claim p a from to) → a < at → Stands t a x → Listed t from to cs → Stands t at (Tree.claim p x cs)
+  -- this expression stands at the second position, and its nodes lie from the first on; each part has a stretch of positions of its own, so no two parts share a node
+  pub data Stands (t : Tables) : ℕ → ℕ → Expr → Type 0 where
+    num : {lo at p n : ℕ} → slice_get t.nodes at ≡ Some (Num p n) → lo ≤ at → Stands t lo at (Tree.num p n)
+    name : {lo at p i : ℕ} → slice_get t.nodes at ≡ Some (Name p i) → lo ≤ at → Stands t lo at (Tree.name p i)
+    calc : {lo at p a b : ℕ} {o : Operator} {x y : Expr} → slice_get t.nodes at ≡ Some (Calc p o a b) → a < at → b < at → Stands t lo a x → Stands t (suc a) b y → Stands t lo at (Tree.calc p o x y)
+    read : {lo at a : ℕ} {s : Site} {x : Expr} → slice_get t.nodes at ≡ Some (Read s.place s.number s.list a) → a < at → Stands t lo a x → Stands t lo at (Tree.read s x)
+    call : {lo at p f a : ℕ} {xs : Args} → slice_get t.nodes at ≡ Some (Call p f a) → a < at → ArgsStand t lo a xs → Stands t lo at (Tree.call p f xs)
+    bind : {lo at p a b : ℕ} {x y : Expr} → slice_get t.nodes at ≡ Some (Bind p a b) → a < at → b < at → Stands t lo a x → Stands t (suc a) b y → Stands t lo at (Tree.bind p x y)
+    test : {lo at p a b d e : ℕ} {c : Comparison} {x y u v : Expr} → slice_get t.nodes at ≡ Some (Test p c a b d e) → a < at → b < at → d < at → e < at → Stands t lo a x → Stands t (suc a) b y → Stands t (suc b) d u → Stands t (suc d) e v → Stands t lo at (Tree.test p c x y u v)
+    put : {lo at p a b e : ℕ} {s : Site} {x y u : Expr} → slice_get t.nodes at ≡ Some (Put p s.place s.number s.list a b e) → a < at → b < at → e < at → Stands t lo a x → Stands t (suc a) b y → Stands t (suc b) e u → Stands t lo at (Tree.put p s x y u)
+    claim : {lo at p a from to : ℕ} {x : Expr} {cs : List Tree.Condition} → slice_get t.nodes at ≡ Some (Claim p a from to) → a < at → Stands t lo a x → Listed t from to cs → Stands t lo at (Tree.claim p x cs)
 
-  -- these arguments stand at a position
-  pub data ArgsStand (t : Tables) : ℕ → Args → Type 0 where
-    end : {at : ℕ} → slice_get t.nodes at ≡ Some End → ArgsStand t at Tree.end
-    value : {at a b : ℕ} {x : Expr} {xs : Args} → slice_get t.nodes at ≡ Some (Value a b) → a < at → b < at → Stands t a x → ArgsStand t b xs → ArgsStand t at (Tree.value x xs)
-    lent : {at l b : ℕ} {xs : Args} → slice_get t.nodes at ≡ Some (Lent l b) → b < at → ArgsStand t b xs → ArgsStand t at (Tree.lent l xs)
+  -- these arguments do, the rest of them before the first, since they are put in from the last
+  pub data ArgsStand (t : Tables) : ℕ → ℕ → Args → Type 0 where
+    end : {lo at : ℕ} → slice_get t.nodes at ≡ Some End → lo ≤ at → ArgsStand t lo at Tree.end
+    value : {lo at a b : ℕ} {x : Expr} {xs : Args} → slice_get t.nodes at ≡ Some (Value a b) → a < at → b < at → ArgsStand t lo b xs → Stands t (suc b) a x → ArgsStand t lo at (Tree.value x xs)
+    lent : {lo at l b : ℕ} {xs : Args} → slice_get t.nodes at ≡ Some (Lent l b) → b < at → ArgsStand t lo b xs → ArgsStand t lo at (Tree.lent l xs)
 
 -- entries were added to the tables
 pub record Grows (s t : Tables) : Type 0 where

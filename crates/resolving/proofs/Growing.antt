@@ -1,32 +1,35 @@
 -- How steps that grow the tables come together.
-use Rattle.std.proofs.Common.{◌≡◌, ℕ, suc, ◌+◌, ◌<◌, ◌≤◌, cond, List, [], ◌∷◌, ◌++◌, map, length, Some, sum_by, sym, refl, ap, ◌∙◌, subst, ap₂, arith}
+use Rattle.std.proofs.Common.{◌≡◌, ℕ, suc, ◌+◌, ◌<◌, ◌≤◌, List, [], ◌∷◌, map, length, Some, sum_by, sym, refl, ap, ◌∙◌, subst, ap₂, arith}
 use Rattle.std.proofs.lemmas.List.{append-nil, length-append, length_push, length-map}
 use Rattle.std.proofs.lemmas.List.Sums.{sum_by-cons, sum_by_push, sum_by-append}
 use Rattle.std.specs.List.{AllByRecursion, slice_get}
-use Rattle.pile.specs.declared.Pile.{Pile}
-use Rattle.pile.specs.Entries.{entries, room}
 use Rattle.language.specs.Tree as Tree
 use Rattle.records.specs.declared.node.Node.{Node}
 use Rattle.records.specs.declared.condition.Condition.{Condition}
 use Rattle.records.specs.declared.condition.Item.{Item}
 use Rattle.records.specs.Tables.{Tables, conditionIn, conditionsIn, stretch}
-use Rattle.records.specs.Standing.{SidesIn, Listed, Grows}
+use Rattle.records.specs.Standing.{SidesIn, Listed, Stands, Grows}
 use Rattle.records.specs.Counting.{up_to, conditionsUpTo, nodeUpTo, nodesUpTo, listedUpTo}
-use Rattle.records.proofs.Standing.{nth_end, same_tables, then_grows, listed-on, stands_on, args-on}
-use Rattle.resolving.specs.Making.{Listing}
-use Rattle.resolving.specs.Growing.{Piles, piles, tablesBy, Roomy, Made, ExprAt, ArgsAt}
+use Rattle.records.proofs.Standing.{nth_end, same_tables, then_grows, listed-on, stands_on, args-on, wider}
+use Rattle.records.specs.Columns.{Columns, tables_by}
+use Rattle.resolving.specs.Making.{Listing, ConditionsAlone}
+use Rattle.resolving.specs.Growing.{added, Roomy, Made, ExprAt, ArgsAt}
 use Rattle.resolving.proofs.Listings.{stretched}
 
-nodes-longer : (s t : Tables) → Grows s t → length s.nodes ≤ length t.nodes
+pub nodes-longer : (s t : Tables) → Grows s t → length s.nodes ≤ length t.nodes
 nodes-longer s t g = omega (arith, ap length g.nodes.1, length-append s.nodes g.nodes.0)
 
-pub expr-on : (at : ℕ) (e : Tree.Expr) (s t : Tables) → Grows s t → ExprAt s at e → ExprAt t at e
-expr-on at e s t g x = record { below = omega (arith, x.below, nodes-longer s t g); stands = stands_on s t at e g x.stands }
+pub expr-on : (lo at : ℕ) (e : Tree.Expr) (s t : Tables) → Grows s t → ExprAt s lo at e → ExprAt t lo at e
+expr-on lo at e s t g x = record { below = omega (arith, x.below, nodes-longer s t g); stands = stands_on s t lo at e g x.stands }
 
-pub arguments-on : (at : ℕ) (es : Tree.Args) (s t : Tables) → Grows s t → ArgsAt s at es → ArgsAt t at es
-arguments-on at es s t g x = record { below = omega (arith, x.below, nodes-longer s t g); stands = args-on s t at es g x.stands }
+pub arguments-on : (lo at : ℕ) (es : Tree.Args) (s t : Tables) → Grows s t → ArgsAt s lo at es → ArgsAt t lo at es
+arguments-on lo at es s t g x = record { below = omega (arith, x.below, nodes-longer s t g); stands = args-on s t lo at es g x.stands }
 
-pub roomy_after : {w v u : ℕ} {c k : ℕ → ℕ} {R : Tables → Type 0} {p q : Piles} → Roomy w p → Made v c k R p q → v + u ≤ w → Roomy u q
+-- where the nodes of an expression are new, they lie after a part that stood before
+pub expr-after : (i lo at : ℕ) (e : Tree.Expr) (s t : Tables) → Grows s t → i < lo → ExprAt s lo at e → Stands t (suc i) at e
+expr-after i lo at e s t g h x = wider t (suc i) lo at e (omega arith) (stands_on s t lo at e g x.stands)
+
+pub roomy_after : {w v u : ℕ} {c k : ℕ → ℕ} {R : Tables → Type 0} {p q : Columns} → Roomy w p → Made v c k R p q → v + u ≤ w → Roomy u q
 roomy_after r m h = record {
   nodes = omega (arith, r.nodes, m.nodes, m.rooms.0);
   conditions = omega (arith, r.conditions, m.listed, m.rooms.1);
@@ -34,10 +37,10 @@ roomy_after r m h = record {
 }
 
 -- nothing yet
-pub made_none : (p : Piles) → Made 0 (λ byte. 0) (λ byte. 0) (λ t. Unit {0}) p p
-made_none p = record { grows = same_tables (tablesBy p); holds = tt; nodes = omega arith; listed = omega arith; items = omega arith; rooms = (refl, refl, refl); exprs = λ byte. omega arith; conditions = λ byte. omega arith }
+pub made_none : (p : Columns) → Made 0 (λ byte. 0) (λ byte. 0) (λ t. Unit {0}) p p
+made_none p = record { grows = same_tables (tables_by p); holds = tt; nodes = omega arith; listed = omega arith; items = omega arith; rooms = (refl, refl, refl); others = (refl, refl, refl); exprs = λ byte. omega arith; conditions = λ byte. omega arith }
 
-pub made_as : {v w : ℕ} {c c' k k' : ℕ → ℕ} {R R' : Tables → Type 0} {p q : Piles} → Made v c k R p q → v ≤ w → ((byte : ℕ) → c byte ≡ c' byte) → ((byte : ℕ) → k byte ≡ k' byte) → (R (tablesBy q) → R' (tablesBy q)) → Made w c' k' R' p q
+pub made_as : {v w : ℕ} {c c' k k' : ℕ → ℕ} {R R' : Tables → Type 0} {p q : Columns} → Made v c k R p q → v ≤ w → ((byte : ℕ) → c byte ≡ c' byte) → ((byte : ℕ) → k byte ≡ k' byte) → (R (tables_by q) → R' (tables_by q)) → Made w c' k' R' p q
 made_as m h e f r = record {
   grows = m.grows;
   holds = r m.holds;
@@ -45,54 +48,59 @@ made_as m h e f r = record {
   listed = omega (arith, m.listed);
   items = omega (arith, m.items);
   rooms = m.rooms;
+  others = m.others;
   exprs = λ byte. omega (arith, m.exprs byte, e byte);
   conditions = λ byte. omega (arith, m.conditions byte, f byte);
 }
 
 -- one step after another
-pub made_then : {v w : ℕ} {c c' k k' : ℕ → ℕ} {R R' : Tables → Type 0} {p q r : Piles} → Made v c k R p q → ((s t : Tables) → Grows s t → R s → R t) → Made w c' k' R' q r → Made (v + w) (λ byte. c byte + c' byte) (λ byte. k byte + k' byte) (λ t. R t × R' t) p r
+pub made_then : {v w : ℕ} {c c' k k' : ℕ → ℕ} {R R' : Tables → Type 0} {p q r : Columns} → Made v c k R p q → ((s t : Tables) → Grows s t → R s → R t) → Made w c' k' R' q r → Made (v + w) (λ byte. c byte + c' byte) (λ byte. k byte + k' byte) (λ t. R t × R' t) p r
 made_then {p = p} {q = q} {r = r} a s b = record {
-  grows = then_grows (tablesBy p) (tablesBy q) (tablesBy r) a.grows b.grows;
-  holds = (s (tablesBy q) (tablesBy r) b.grows a.holds, b.holds);
+  grows = then_grows (tables_by p) (tables_by q) (tables_by r) a.grows b.grows;
+  holds = (s (tables_by q) (tables_by r) b.grows a.holds, b.holds);
   nodes = omega (arith, a.nodes, b.nodes);
   listed = omega (arith, a.listed, b.listed);
   items = omega (arith, a.items, b.items);
   rooms = (b.rooms.0 ∙ a.rooms.0, b.rooms.1 ∙ a.rooms.1, b.rooms.2 ∙ a.rooms.2);
+  others = (b.others.0 ∙ a.others.0, b.others.1 ∙ a.others.1, b.others.2 ∙ a.others.2);
   exprs = λ byte. omega (arith, a.exprs byte, b.exprs byte);
   conditions = λ byte. omega (arith, a.conditions byte, b.conditions byte);
 }
 
 -- a node is pushed
-pub made-push : (p : Piles) (q : Pile Node) (node : Node) → entries q ≡ entries p.nodes ++ node ∷ [] → room q ≡ room p.nodes → Made 1 (λ byte. nodeUpTo byte node) (λ byte. 0) (λ t. slice_get t.nodes (length (entries p.nodes)) ≡ Some node) p (piles q p.conditions p.items)
+pub made-push : (p : Columns) (node : Node) → Made 1 (λ byte. nodeUpTo byte node) (λ byte. 0) (λ t. slice_get t.nodes (length p.nodes.entries) ≡ Some node) p (added p node)
 unfolding nodesUpTo
-made-push p q node e r = record {
-  grows = record { nodes = (node ∷ [], e); conditions = ([], sym (append-nil (entries p.conditions))); items = ([], sym (append-nil (entries p.items))) };
-  holds = ap (λ ns. slice_get ns (length (entries p.nodes))) e ∙ nth_end (entries p.nodes) node;
-  nodes = omega (arith, ap length e, length_push (entries p.nodes) node);
+made-push p node = record {
+  grows = record { nodes = (node ∷ [], refl); conditions = ([], sym (append-nil p.conditions.entries)); items = ([], sym (append-nil p.items.entries)) };
+  holds = nth_end p.nodes.entries node;
+  nodes = omega (arith, length_push p.nodes.entries node);
   listed = omega arith;
   items = omega arith;
-  rooms = (r, refl, refl);
-  exprs = λ byte. ap (sum_by (nodeUpTo byte)) e ∙ sum_by_push (nodeUpTo byte) (entries p.nodes) node;
+  rooms = (refl, refl, refl);
+  others = (refl, refl, refl);
+  exprs = λ byte. sum_by_push (nodeUpTo byte) p.nodes.entries node;
   conditions = λ byte. omega arith;
 }
 
 -- a node is pushed after a step, and what it stands for holds then
-pub made-node : {v w : ℕ} {c c' k k' : ℕ → ℕ} {R R' : Tables → Type 0} {p q : Piles} (ns : Pile Node) (node : Node) → Made v c k R p q → entries ns ≡ entries q.nodes ++ node ∷ [] → room ns ≡ room q.nodes
+pub made-node : {v w : ℕ} {c c' k k' : ℕ → ℕ} {R R' : Tables → Type 0} {p q : Columns} (last : Columns) (node : Node) → Made v c k R p q → last ≡ added q node
     → v + 1 ≤ w → ((byte : ℕ) → c byte + nodeUpTo byte node ≡ c' byte) → ((byte : ℕ) → k byte ≡ k' byte)
-    → (R (tablesBy q) → (t : Tables) → Grows (tablesBy q) t → length (entries q.nodes) < length t.nodes → slice_get t.nodes (length (entries q.nodes)) ≡ Some node → R' t)
-    → Made w c' k' R' p (piles ns q.conditions q.items)
-made-node {R = R} {p = p} {q = q} ns node m e r h x y f =
-    let s = made-push q ns node e r in
-    let last = piles ns q.conditions q.items in record {
-      grows = then_grows (tablesBy p) (tablesBy q) (tablesBy last) m.grows s.grows;
-      holds = f m.holds (tablesBy last) s.grows (omega (arith, ap length e, length_push (entries q.nodes) node)) s.holds;
+    → (R (tables_by q) → (t : Tables) → Grows (tables_by q) t → length q.nodes.entries < length t.nodes → slice_get t.nodes (length q.nodes.entries) ≡ Some node → R' t)
+    → Made w c' k' R' p last
+made-node {w = w} {c' = c'} {k' = k'} {R = R} {R' = R'} {p = p} {q = q} last node m e h x y f =
+    let s = made-push q node in
+    let z = added q node in
+    subst (λ (z : Columns). Made w c' k' R' p z) (sym e) (record {
+      grows = then_grows (tables_by p) (tables_by q) (tables_by z) m.grows s.grows;
+      holds = f m.holds (tables_by z) s.grows (omega (arith, length_push q.nodes.entries node)) s.holds;
       nodes = omega (arith, m.nodes, s.nodes);
       listed = omega (arith, m.listed);
       items = omega (arith, m.items);
-      rooms = (r ∙ m.rooms.0, m.rooms.1, m.rooms.2);
+      rooms = m.rooms;
+      others = m.others;
       exprs = λ byte. omega (arith, m.exprs byte, s.exprs byte, x byte);
       conditions = λ byte. omega (arith, m.conditions byte, y byte);
-    }
+    })
 
 -- conditions go into their tables
 places : (byte : ℕ) (items : List Item) (cs : List Condition) → sum_by (λ (c : Condition). up_to byte c.place) cs ≡ conditionsUpTo byte (map (conditionIn items) cs)
@@ -111,19 +119,23 @@ listed_here ys ns ds ds' is is' from to l f t =
       reads = ap (map (conditionIn is')) e ∙ l.stand;
     }
 
-pub made-listed : (ys : List Tree.Condition) (w from to : ℕ) (p : Piles) (d : Pile Condition) (i : Pile Item) → Listing ys (entries p.conditions) (entries d) (entries p.items) (entries i) → from ≡ length (entries p.conditions) → to ≡ length (entries d) → length ys ≤ w → length (entries i) ≤ length (entries p.items) + w → room d ≡ room p.conditions → room i ≡ room p.items
-    → Made w (λ byte. 0) (λ byte. conditionsUpTo byte ys) (λ t. Listed t from to ys) p (piles p.nodes d i)
+pub made-listed : (ys : List Tree.Condition) (w from to : ℕ) (p q : Columns) → Listing ys p.conditions.entries q.conditions.entries p.items.entries q.items.entries → from ≡ length p.conditions.entries → to ≡ length q.conditions.entries → length ys ≤ w → length q.items.entries ≤ length p.items.entries + w → ConditionsAlone p q
+    → Made w (λ byte. 0) (λ byte. conditionsUpTo byte ys) (λ t. Listed t from to ys) p q
 unfolding listedUpTo
-made-listed ys w from to p d i l f t h m r s = record {
-  grows = record { nodes = ([], sym (append-nil (entries p.nodes))); conditions = (l.more, l.grown); items = l.items };
-  holds = listed_here ys (entries p.nodes) (entries p.conditions) (entries d) (entries p.items) (entries i) from to l f t;
-  nodes = omega arith;
-  listed = omega (arith, ap length l.grown, length-append (entries p.conditions) l.more, length-map l.more (conditionIn (entries i)), ap length l.stand);
-  items = m;
-  rooms = (refl, r, s);
-  exprs = λ byte. omega arith;
-  conditions = λ byte. ap (sum_by (λ (c : Condition). up_to byte c.place)) l.grown ∙ sum_by-append (λ (c : Condition). up_to byte c.place) (entries p.conditions) l.more ∙ ap (λ n. sum_by (λ (c : Condition). up_to byte c.place) (entries p.conditions) + n) (places byte (entries i) l.more ∙ ap (conditionsUpTo byte) l.stand);
-}
+made-listed ys w from to p q l f t h m alone =
+    let e = alone.rest in
+    let n : q.nodes ≡ p.nodes = ap (λ (c : Columns). c.nodes) e in
+    let ns : q.nodes.entries ≡ p.nodes.entries = ap (λ (c : Columns). c.nodes.entries) e in record {
+      grows = record { nodes = ([], ns ∙ sym (append-nil p.nodes.entries)); conditions = (l.more, l.grown); items = l.items };
+      holds = listed_here ys q.nodes.entries p.conditions.entries q.conditions.entries p.items.entries q.items.entries from to l f t;
+      nodes = omega (arith, ap length ns);
+      listed = omega (arith, ap length l.grown, length-append p.conditions.entries l.more, length-map l.more (conditionIn q.items.entries), ap length l.stand);
+      items = m;
+      rooms = (ap (λ (c : Columns). c.nodes.room) e, alone.room, alone.items);
+      others = (ap (λ (c : Columns). c.params) e, ap (λ (c : Columns). c.entries) e, ap (λ (c : Columns). c.lender) e);
+      exprs = λ byte. omega (arith, ap (nodesUpTo byte) ns);
+      conditions = λ byte. ap (sum_by (λ (c : Condition). up_to byte c.place)) l.grown ∙ sum_by-append (λ (c : Condition). up_to byte c.place) p.conditions.entries l.more ∙ ap (λ n. sum_by (λ (c : Condition). up_to byte c.place) p.conditions.entries + n) (places byte q.items.entries l.more ∙ ap (conditionsUpTo byte) l.stand);
+    }
 
 pub listed-grows : (from to : ℕ) (cs : List Tree.Condition) (s t : Tables) → Grows s t → Listed s from to cs → Listed t from to cs
 listed-grows from to cs s t g l = listed-on s t from to cs g l

@@ -6,3 +6,4 @@ pub mod Growing
 pub mod Resolved
 pub mod Parts
 pub mod Ruling
+pub mod Alone

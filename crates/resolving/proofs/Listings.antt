@@ -1,9 +1,8 @@
 -- Conditions in their tables: one from its two sides, and one after another.
-use Rattle.std.proofs.Common.{◌≡◌, ℕ, suc, ◌+◌, ◌-◌, ◌<◌, ◌≤◌, min, Bool, true, false, cond, List, [], ◌∷◌, ◌++◌, map, length, take, drop, Some, None, sym, refl, ap, ◌∙◌, subst, ap₂, inl, inr, arith}
+use Rattle.std.proofs.Common.{◌≡◌, ℕ, suc, ◌+◌, ◌-◌, ◌≤◌, min, Bool, true, false, cond, List, [], ◌∷◌, ◌++◌, map, length, take, sym, refl, ap, ◌∙◌, subst, ap₂, inl, inr, arith}
 use Rattle.std.proofs.lemmas.List.{append-nil, append_assoc, length-append, drop_at, take_all, get_or_past}
 use Rattle.std.proofs.lemmas.Bool.{cases_lt}
 use Rattle.std.proofs.ByRecursion.{All-append}
-use Rattle.std.specs.List.{AllByRecursion}
 use Rattle.letters.specs.declared.token.Token.{Token}
 use Rattle.letters.specs.declared.kind.Kind.TheVariants.{Numeral, Times, Comma, End}
 use Rattle.letters.specs.Kinds.{sameKind}
@@ -11,7 +10,7 @@ use Rattle.letters.specs.Tokens.{tokenOf}
 use Rattle.grammar.specs.Parsers.{Look, lookIn, is_a}
 use Rattle.grammar.specs.Raw as Raw
 use Rattle.grammar.specs.Sheets.{plainItem, timesItem, conditionOf}
-use Rattle.grammar.specs.Stretches.{Past, past, item_at, sideAt, conditionAt, conditionsAt}
+use Rattle.grammar.specs.Stretches.{past, item_at, sideAt, conditionAt, conditionsAt}
 use Rattle.naming.specs.Scopes.{Scope}
 use Rattle.naming.proofs.Joins.{rest-none}
 use Rattle.naming.proofs.Turns.{side-list, conditions-list, past-side}
@@ -21,7 +20,7 @@ use Rattle.records.specs.declared.condition.Item.{Item}
 use Rattle.records.specs.Tables.{stretch, item_of, side_in, conditionIn}
 use Rattle.records.specs.Standing.{SidesIn}
 use Rattle.records.proofs.Stretches.{stays}
-use Rattle.records.proofs.Standing.{More, more-more, conditions-stay, longer, sides-in}
+use Rattle.records.proofs.Standing.{more-more, conditions-stay, longer, sides-in}
 use Rattle.resolving.specs.Resolving as Resolving
 use Rattle.resolving.specs.Resolving.{sidePlace, itemPlace}
 use Rattle.resolving.specs.Making.{Added, Listing, Formed}
@@ -130,3 +129,7 @@ clamped ts e n i = elim (cases_lt i (length ts)) [
         conditions-list l n i ∙ ap (λ cs. (conditionAt n l i).value ∷ cs) (rest-none l (is_a Comma) (λ t m. conditionAt n l m) n k d)
         ∙ ap₂ (λ x y. conditionOf x (l j) y ∷ []) (past-side ts e n i h).0 (past-side ts e n (suc j) (omega arith)).0
         ∙ ap (λ t. conditionOf (plainItem false E ∷ []) t (plainItem false E ∷ []) ∷ []) (get_or_past ts j E (omega arith))
+
+-- the same items
+pub under-in : (F : Raw.Condition → Tree.Condition) (ys zs : List Raw.Condition) (ds ds' : List Condition) {is js is' js' : List Item} → Under F ys zs ds ds' is is' → js ≡ is → js' ≡ is' → Under F ys zs ds ds' js js'
+under-in F ys zs ds ds' {is = is} {js' = js'} u a b = subst (λ xs. Under F ys zs ds ds' xs js') (sym a) (subst (λ xs. Under F ys zs ds ds' is xs) (sym b) u)

@@ -1,14 +1,13 @@
 -- What a written node is, and the room that its parts have.
-use Rattle.std.proofs.Common.{◌≡◌, ℕ, ◌+◌, ◌<◌, ◌≤◌, cond, List, [], ◌∷◌, map, length, Some, None, Option, sym, refl, ap, ◌∙◌, subst, arith}
+use Rattle.std.proofs.Common.{◌≡◌, ℕ, ◌≤◌, cond, List, [], ◌∷◌, map, length, Some, Option, sym, refl, ap, ◌∙◌, subst, arith}
 use Rattle.letters.specs.declared.token.Token.{Token}
 use Rattle.grammar.specs.declared.node.Node.{Node}
 use Rattle.grammar.specs.Raw as Raw
 use Rattle.grammar.specs.Trees.{Source, Part, grown, partIn, rawAt}
 use Rattle.grammar.proofs.Parts.{step}
 use Rattle.syntax.specs.Weights.{exprWeight, conditionWeight, conditionsWeight}
-use Rattle.pile.specs.Entries.{entries, room}
 use Rattle.naming.specs.declared.written.Written.{Written}
-use Rattle.naming.specs.Reaches.{tokensOf, scope_of, sheetOf}
+use Rattle.naming.specs.Reaches.{scope_of}
 use Rattle.naming.specs.Scopes.{Scope, Sheet, slotIn, ruleIn, next}
 use Rattle.naming.specs.Sources.{nodeIn}
 use Rattle.letters.specs.declared.kind.Kind.TheVariants.{End}
@@ -16,21 +15,22 @@ use Rattle.letters.specs.Tokens.{tokenOf, same_name}
 use Rattle.std.proofs.lemmas.List.{length-map}
 use Rattle.std.proofs.lemmas.List.Sums.{sum_by-cons}
 use Rattle.resolving.specs.Resolving.{slot_of, conditionOf, conditionsOf}
-use Rattle.resolving.specs.Growing.{Piles, Roomy, ExprMade, ArgsMade}
+use Rattle.records.specs.Columns.{Columns}
+use Rattle.resolving.specs.Growing.{Roomy, ExprMade}
 
 pub raw-is : (s : Source) (top : ℕ) (ns : List Node) (at : ℕ) (o : Option Node) → o ≡ nodeIn top ns at → rawAt s top ns at ≡ (grown s (partIn s at ns) o).expr
 raw-is s top ns at o e = ap (λ (p : Part). p.expr) (step s top ns at ∙ ap (grown s (partIn s at ns)) (sym e))
 
-pub roomy-less : {u w : ℕ} {p : Piles} → Roomy w p → u ≤ w → Roomy u p
+pub roomy-less : {u w : ℕ} {p : Columns} → Roomy w p → u ≤ w → Roomy u p
 roomy-less r h = record { nodes = omega (arith, r.nodes); conditions = omega (arith, r.conditions); items = omega (arith, r.items) }
 
-pub roomy-is : (e f : Raw.Expr) (p : Piles) → Roomy (exprWeight e) p → e ≡ f → Roomy (exprWeight f) p
+pub roomy-is : (e f : Raw.Expr) (p : Columns) → Roomy (exprWeight e) p → e ≡ f → Roomy (exprWeight f) p
 roomy-is e f p r h = subst (λ x. Roomy (exprWeight x) p) h r
 
-pub made-is : (S : Sheet) (Γ : Scope) (e f : Raw.Expr) (i j : ℕ) (p q : Piles) → ExprMade S Γ f j p q → e ≡ f → i ≡ j → ExprMade S Γ e i p q
+pub made-is : (S : Sheet) (Γ : Scope) (e f : Raw.Expr) (i j : ℕ) (p q : Columns) → ExprMade S Γ f j p q → e ≡ f → i ≡ j → ExprMade S Γ e i p q
 made-is S Γ e f i j p q m h k = subst (λ x. ExprMade S Γ x i p q) (sym h) (subst (λ n. ExprMade S Γ f n p q) (sym k) m)
 
-pub made_in : (S : Sheet) (w : Written) (xs ys ls : List ℕ) (e : Raw.Expr) (i : ℕ) (p q : Piles) → ExprMade S (scope_of w xs ls) e i p q → xs ≡ ys → ExprMade S (scope_of w ys ls) e i p q
+pub made_in : (S : Sheet) (w : Written) (xs ys ls : List ℕ) (e : Raw.Expr) (i : ℕ) (p q : Columns) → ExprMade S (scope_of w xs ls) e i p q → xs ≡ ys → ExprMade S (scope_of w ys ls) e i p q
 made_in S w xs ys ls e i p q m h = subst (λ zs. ExprMade S (scope_of w zs ls) e i p q) h m
 
 -- a rule is found as a name among the rules' names

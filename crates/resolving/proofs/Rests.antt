@@ -1,5 +1,5 @@
 -- One more is read past each joining token.
-use Rattle.std.proofs.Common.{◌≡◌, ℕ, zero, suc, ◌+◌, ◌-◌, ◌<◌, Bool, true, cond, List, [], ◌∷◌, sym, refl, ap, ◌∙◌, arith}
+use Rattle.std.proofs.Common.{◌≡◌, ℕ, zero, suc, ◌+◌, ◌-◌, ◌<◌, Bool, true, cond, [], ◌∷◌, ap, ◌∙◌, arith}
 use Rattle.letters.specs.declared.token.Token.{Token}
 use Rattle.grammar.specs.Parsers.{Look}
 use Rattle.naming.specs.Stretching.{Reader, rest}

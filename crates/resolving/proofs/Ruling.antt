@@ -1,26 +1,22 @@
 -- A rule in the tables, from its parameters, conditions and body.
-use Rattle.std.proofs.Common.{◌≡◌, ℕ, zero, suc, ◌+◌, ◌<◌, ◌≤◌, List, [], ◌∷◌, ◌++◌, map, length, sum_by, sym, refl, ap, ◌∙◌, subst, ap₂, inl, inr, arith}
+use Rattle.std.proofs.Common.{◌≡◌, ℕ, zero, suc, ◌+◌, ◌<◌, ◌≤◌, Bool, cond, ltb, List, [], ◌∷◌, ◌++◌, map, length, sym, refl, ap, ◌∙◌, subst, ap₂, inl, inr, arith}
 use Rattle.std.proofs.lemmas.Bool.{cases_lt}
 use Rattle.std.proofs.lemmas.List.{length-map, length_push, map_push, append-nil}
 use Rattle.grammar.specs.Raw as Raw
-use Rattle.syntax.specs.Weights.{exprWeight, conditionsWeight, ruleWeight}
-use Rattle.pile.specs.declared.Pile.{Pile}
-use Rattle.pile.specs.Entries.{entries, room}
+use Rattle.syntax.specs.Weights.{conditionsWeight, ruleWeight}
 use Rattle.naming.specs.Scopes.{Scope, Sheet, empty, headScope}
 use Rattle.language.specs.Tree as Tree
 use Rattle.letters.specs.declared.token.Token.{Token}
-use Rattle.records.specs.declared.node.Node.{Node as Resolved}
 use Rattle.records.specs.declared.entry.Param.{Param}
 use Rattle.records.specs.declared.entry.Entry.{Entry}
-use Rattle.records.specs.declared.condition.Condition.{Condition}
-use Rattle.records.specs.declared.condition.Item.{Item}
 use Rattle.records.specs.Tables as Tables
 use Rattle.records.specs.Standing.{Listed}
 use Rattle.records.specs.Rules.{RulesStand}
 use Rattle.records.specs.Counting.{conditionsUpTo}
 use Rattle.resolving.specs.Resolving.{conditionsOf, paramOf, ruleOf}
-use Rattle.resolving.specs.Making.{Added, Listing}
-use Rattle.resolving.specs.Growing.{Piles, piles, tablesBy, Made, ExprAt, ExprMade}
+use Rattle.records.specs.Columns.{Column, Columns, pushed, tables_by}
+use Rattle.resolving.specs.Making.{Added, Listing, ConditionsAlone, ParamsAlone}
+use Rattle.resolving.specs.Growing.{Roomy, Made, ExprMade}
 use Rattle.grammar.specs.declared.node.Node.{Node}
 use Rattle.grammar.specs.Trees.{Source, rawAt, rulesTo}
 use Rattle.grammar.specs.Trees as Trees
@@ -28,49 +24,82 @@ use Rattle.std.specs.List.{slice_get}
 use Rattle.std.proofs.lemmas.List.Sums.{sum_by-append, sum_by_push}
 use Rattle.syntax.specs.Weights.{weightOf}
 use Rattle.records.specs.Counting.{exprsUpTo, claimsUpTo, nodesUpTo, listedUpTo}
-use Rattle.records.proofs.Rules.{rules-on, rules-more}
+use Rattle.records.proofs.Rules.{rules-more}
+use Rattle.records.proofs.Standing.{wider}
 use Rattle.counting.specs.Counts.{sheetExprs, sheetConditions}
-use Rattle.resolving.specs.Ruling.{RuleMade, RulesMade, Empty, Ample}
-use Rattle.resolving.proofs.Adding.{size}
-use Rattle.resolving.proofs.Growing.{expr-on, made_as, made_then, made-listed, listed-grows}
+use Rattle.resolving.specs.Ruling.{paramsOf, RuleMade, RulesMade, Empty, SameRooms}
+use Rattle.resolving.proofs.Adding.{size, taken}
+use Rattle.resolving.proofs.Growing.{nodes-longer, made_as, made_then, made-listed, listed-grows}
 use Rattle.resolving.proofs.Listings.{stretched}
 use Rattle.resolving.proofs.Parts.{listed-few}
 
 -- conditions that were listed, in a scope that is the same
-pub conditions-made : (text : List ℕ) (Γ Δ : Scope) (cs : List Raw.Condition) (from to : ℕ) (p : Piles) (d : Pile Condition) (i : Pile Item) → Listing (conditionsOf text Γ cs) (entries p.conditions) (entries d) (entries p.items) (entries i) → Γ ≡ Δ → from ≡ length (entries p.conditions) → to ≡ length (entries d) → length (entries i) ≤ length (entries p.items) + conditionsWeight cs → room d ≡ room p.conditions → room i ≡ room p.items
-    → Made (conditionsWeight cs) (λ byte. 0) (λ byte. conditionsUpTo byte (conditionsOf text Δ cs)) (λ t. Listed t from to (conditionsOf text Δ cs)) p (piles p.nodes d i)
-conditions-made text Γ Δ cs from to p d i l e f t m r s =
-    made-listed (conditionsOf text Δ cs) (conditionsWeight cs) from to p d i (subst (λ (Θ : Scope). Listing (conditionsOf text Θ cs) (entries p.conditions) (entries d) (entries p.items) (entries i)) e l) f t (listed-few text Δ cs) m r s
+pub conditions-made : (text : List ℕ) (Γ Δ : Scope) (cs : List Raw.Condition) (from to : ℕ) (p q : Columns) → Listing (conditionsOf text Γ cs) p.conditions.entries q.conditions.entries p.items.entries q.items.entries → Γ ≡ Δ → from ≡ length p.conditions.entries → to ≡ length q.conditions.entries → length q.items.entries ≤ length p.items.entries + conditionsWeight cs → ConditionsAlone p q
+    → Made (conditionsWeight cs) (λ byte. 0) (λ byte. conditionsUpTo byte (conditionsOf text Δ cs)) (λ t. Listed t from to (conditionsOf text Δ cs)) p q
+conditions-made text Γ Δ cs from to p q l e f t m a =
+    made-listed (conditionsOf text Δ cs) (conditionsWeight cs) from to p q (subst (λ (Θ : Scope). Listing (conditionsOf text Θ cs) p.conditions.entries q.conditions.entries p.items.entries q.items.entries) e l) f t (listed-few text Δ cs) m a
 
-pub rule-made : (S : Sheet) (r : Raw.Rule) (e : Entry) (p q u v : Piles) (ps qs : Pile Param)
+-- a rule's parameters, then its needs, its gives and its body
+pub rule-made : (S : Sheet) (r : Raw.Rule) (e : Entry) (o p q u v : Columns)
+    → Added Tables.paramOf (map paramOf r.params) o.params.entries p.params.entries → e.params.from ≡ length o.params.entries → e.params.to ≡ length p.params.entries → ParamsAlone o p
     → Made (conditionsWeight r.needs) (λ byte. 0) (λ byte. conditionsUpTo byte (ruleOf S r).needs) (λ t. Listed t e.needs.from e.needs.to (ruleOf S r).needs) p q
     → Made (conditionsWeight r.gives) (λ byte. 0) (λ byte. conditionsUpTo byte (ruleOf S r).gives) (λ t. Listed t e.gives.from e.gives.to (ruleOf S r).gives) q u
     → ExprMade S (headScope empty r.params) r.body e.body u v
-    → Added Tables.paramOf (map paramOf r.params) (entries ps) (entries qs) → e.params.from ≡ length (entries ps) → e.params.to ≡ length (entries qs) → room qs ≡ room ps → e.place ≡ r.keyword.place → RuleMade S r e p v ps qs
-rule-made S r e p q u v ps qs n g b a f t h k =
+    → e.place ≡ r.keyword.place → RuleMade S r e o v
+rule-made S r e o p q u v a f t h n g b k =
     let m = made_then (made_then n (listed-grows e.needs.from e.needs.to (ruleOf S r).needs) g) (λ s t x y. (listed-grows e.needs.from e.needs.to (ruleOf S r).needs s t x y.0, listed-grows e.gives.from e.gives.to (ruleOf S r).gives s t x y.1)) b in
-    let z = size Tables.paramOf (map paramOf r.params) (entries ps) (entries qs) a in
-    let y = length-map r.params paramOf in record {
-      made = made_as m (omega arith) (λ byte. omega arith) (λ byte. refl) (λ _. tt);
-      params = (a.more, a.grown);
-      few = omega arith;
-      roomy = h;
+    let z = size Tables.paramOf (map paramOf r.params) o.params.entries p.params.entries a in
+    let y = length-map r.params paramOf in
+    let s : v.params ≡ p.params = m.others.0 in
+    let vs : v.params.entries ≡ p.params.entries = ap (λ (c : Column Param). c.entries) s in
+    let front : paramsOf v o ≡ p = ap (λ (c : Column Param). record o { params = c }) s ∙ sym h.rest in
+    record {
+      made = subst (λ (c : Columns). Made (ruleWeight r) (λ byte. exprsUpTo byte (ruleOf S r).body) (λ byte. (conditionsUpTo byte (ruleOf S r).needs + conditionsUpTo byte (ruleOf S r).gives) + claimsUpTo byte (ruleOf S r).body) (λ t. Unit {0}) c v) (sym front)
+          (made_as m (omega arith) (λ byte. omega arith) (λ byte. refl) (λ _. tt));
+      params = (a.more, vs ∙ a.grown);
+      few = omega (arith, ap length vs);
+      roomy = ap (λ (c : Column Param). c.room) s ∙ h.room;
       stands = record {
         place = k;
-        within = omega arith;
-        params = ap₂ (λ x y. map Tables.paramOf (Tables.stretch (entries qs) x y)) f t ∙ ap (λ l. map Tables.paramOf (Tables.stretch l (length (entries ps)) (length l))) a.grown ∙ ap (map Tables.paramOf) (stretched (entries ps) a.more) ∙ a.stand;
+        within = omega (arith, ap length vs);
+        params = ap (λ l. map Tables.paramOf (Tables.stretch l e.params.from e.params.to)) vs ∙ ap₂ (λ x y. map Tables.paramOf (Tables.stretch p.params.entries x y)) f t ∙ ap (λ l. map Tables.paramOf (Tables.stretch l (length o.params.entries) (length l))) a.grown ∙ ap (map Tables.paramOf) (stretched o.params.entries a.more) ∙ a.stand;
         needs = m.holds.0.0;
         gives = m.holds.0.1;
         below = m.holds.1.below;
-        body = m.holds.1.stands;
+        body = wider (tables_by v) (length o.nodes.entries) (length u.nodes.entries) e.body (ruleOf S r).body (omega (arith, ap (λ (c : Columns). length c.nodes.entries) h.rest, nodes-longer (tables_by p) (tables_by q) n.grows, nodes-longer (tables_by q) (tables_by u) g.grows)) m.holds.1.stands;
       };
     }
 
+-- an entry is put after the others
+abbrev pub with_entry : Columns → Entry → Columns
+with_entry p e = record p { entries = pushed p.entries e }
+
+-- parameters take no room from the other tables
+pub roomy-params : {w : ℕ} {o p : Columns} → Roomy w o → ParamsAlone o p → Roomy w p
+roomy-params {w = w} {o = o} {p = p} r a = subst (Roomy w) (sym a.rest) (record { nodes = r.nodes; conditions = r.conditions; items = r.items })
+
+pub entry_taken : (p q : Columns) (e : Entry) (b : Bool) → b ≡ ltb (length p.entries.entries) p.entries.room → length p.entries.entries < p.entries.room → q ≡ cond b (with_entry p e) p → q ≡ with_entry p e
+entry_taken p q e b h l f = taken (with_entry p e) p q b (length p.entries.entries) p.entries.room h l f
+
+pub rooms_none : {p : Columns} → SameRooms p p
+rooms_none = record { nodes = refl; conditions = refl; items = refl; params = refl; entries = refl; lender = refl }
+
+-- the rooms stay over a rule and its entry
+pub rooms_turn : (S : Sheet) (r : Raw.Rule) (e : Entry) (o p q : Columns) → SameRooms o p → RuleMade S r e p q → SameRooms o (with_entry q e)
+rooms_turn S r e o p q s m = record {
+  nodes = m.made.rooms.0 ∙ s.nodes;
+  conditions = m.made.rooms.1 ∙ s.conditions;
+  items = m.made.rooms.2 ∙ s.items;
+  params = m.roomy ∙ s.params;
+  entries = ap (λ (c : Column Entry). c.room) m.made.others.1 ∙ s.entries;
+  lender = m.made.others.2 ∙ s.lender;
+}
+
 -- rule after rule
-pub rules-none : (S : Sheet) (p : Piles) (ps : Pile Param) (es : Pile Entry) → Empty p ps es → RulesMade S [] p ps es
+pub rules-none : (S : Sheet) (p : Columns) → Empty p → RulesMade S [] p
 unfolding nodesUpTo listedUpTo sheetExprs sheetConditions
-rules-none S p ps es e = record {
-  stand = subst (λ xs. RulesStand (tablesBy p) (entries ps) xs []) (sym e.rules) tt;
+rules-none S p e = record {
+  stand = subst (λ xs. RulesStand (tables_by p) p.params.entries 0 xs []) (sym e.rules) tt;
   nodes = omega (arith, ap length e.nodes);
   conditions = omega (arith, ap length e.conditions);
   items = omega (arith, ap length e.items);
@@ -80,15 +109,17 @@ rules-none S p ps es e = record {
   claims = λ byte. ap (listedUpTo byte) e.conditions;
 }
 
-pub rules-turn : (S : Sheet) (rs : List Raw.Rule) (r : Raw.Rule) (e : Entry) (p q : Piles) (ps qs : Pile Param) (es fs : Pile Entry) → RulesMade S rs p ps es → RuleMade S r e p q ps qs → entries fs ≡ entries es ++ e ∷ [] → RulesMade S (rs ++ r ∷ []) q qs fs
+pub rules-turn : (S : Sheet) (rs : List Raw.Rule) (r : Raw.Rule) (e : Entry) (p q : Columns) → RulesMade S rs p → RuleMade S r e p q → RulesMade S (rs ++ r ∷ []) (with_entry q e)
 unfolding sheetExprs sheetConditions
-rules-turn S rs r e p q ps qs es fs m n h =
+rules-turn S rs r e p q m n =
     let w = sum_by_push ruleWeight rs r in
-    let a = ap length h ∙ length_push (entries es) e in
+    let same : q.entries.entries ≡ p.entries.entries = ap (λ (c : Column Entry). c.entries) n.made.others.1 in
+    let h : (with_entry q e).entries.entries ≡ p.entries.entries ++ e ∷ [] = ap (λ xs. xs ++ e ∷ []) same in
+    let a = ap length h ∙ length_push p.entries.entries e in
     let k = map_push (ruleOf S) rs r in record {
-      stand = subst (λ xs. RulesStand (tablesBy q) (entries qs) xs (map (ruleOf S) (rs ++ r ∷ []))) (sym h)
-          (subst (λ ys. RulesStand (tablesBy q) (entries qs) (entries es ++ e ∷ []) ys) (sym k)
-          (rules-more (tablesBy q) (entries qs) (entries es) (e ∷ []) (map (ruleOf S) rs) (ruleOf S r ∷ []) (rules-on (tablesBy p) (tablesBy q) (entries ps) (entries qs) (entries es) (map (ruleOf S) rs) n.made.grows n.params m.stand) (n.stands, tt)));
+      stand = subst (λ xs. RulesStand (tables_by q) q.params.entries 0 xs (map (ruleOf S) (rs ++ r ∷ []))) (sym h)
+          (subst (λ ys. RulesStand (tables_by q) q.params.entries 0 (p.entries.entries ++ e ∷ []) ys) (sym k)
+          (rules-more (tables_by p) (tables_by q) p.params.entries q.params.entries 0 p.entries.entries (map (ruleOf S) rs) e (ruleOf S r) n.made.grows n.params (omega arith) m.stand n.stands));
       nodes = omega (arith, m.nodes, n.made.nodes);
       conditions = omega (arith, m.conditions, n.made.listed);
       items = omega (arith, m.items, n.made.items);
@@ -121,9 +152,9 @@ module _ (s : Source) (ns : List Node) where
     | inr l ↦ let i = weight-front k n l in let e = ap weightOf (more n) ∙ sum_by-append ruleWeight (rulesTo s n ns) (Trees.ruleIn s (rawAt s n ns) (slice_get ns n)) in omega arith
   ]
 
--- the same piles
-pub rules-in : (S : Sheet) (rs qs : List Raw.Rule) (n n' : Pile Resolved) (d d' : Pile Condition) (i i' : Pile Item) (ps ps' : Pile Param) (es es' : Pile Entry) → RulesMade S rs (piles n d i) ps es → qs ≡ rs → n' ≡ n → d' ≡ d → i' ≡ i → ps' ≡ ps → es' ≡ es → RulesMade S qs (piles n' d' i') ps' es'
-rules-in S rs qs n n' d d' i i' ps ps' es es' m a b c e f g = rw (a, b, c, e, f, g) m
+-- the same rules in the same tables
+pub rules-in : (S : Sheet) (rs qs : List Raw.Rule) (p q : Columns) → RulesMade S rs p → qs ≡ rs → q ≡ p → RulesMade S qs q
+rules-in S rs qs p q m a b = subst (λ rs. RulesMade S rs q) (sym a) (subst (λ (c : Columns). RulesMade S rs c) (sym b) m)
 
 -- a rule's name joins the others
 pub name-joins : (l : ℕ → Token) (ns ns' : List ℕ) (rs rs' : List Raw.Rule) (r : Raw.Rule) (k : ℕ) → map l ns ≡ map (λ (r : Raw.Rule). r.name) rs → ns' ≡ ns ++ k ∷ [] → rs' ≡ rs ++ r ∷ [] → l k ≡ r.name → map l ns' ≡ map (λ (r : Raw.Rule). r.name) rs'

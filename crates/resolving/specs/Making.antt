@@ -1,5 +1,5 @@
 -- What is made of a written sheet: what goes into the tables, and how they grow.
-use Rattle.std.specs.Prelude.{◌≡◌, ℕ, ◌+◌, ◌<◌, ◌≤◌, List, ◌++◌, map, length}
+use Rattle.std.specs.Prelude.{◌≡◌, ℕ, ◌<◌, List, ◌++◌, map, length}
 use Rattle.std.specs.List.{AllByRecursion}
 use Rattle.letters.specs.declared.token.Token.{Token}
 use Rattle.grammar.specs.Trees.{look_of}
@@ -10,6 +10,7 @@ use Rattle.records.specs.declared.condition.Condition.{Condition}
 use Rattle.records.specs.declared.condition.Item.{Item}
 use Rattle.records.specs.Tables.{conditionIn}
 use Rattle.records.specs.Standing.{SidesIn}
+use Rattle.records.specs.Columns.{Columns}
 
 -- a numeral has six digits at most
 pub record Small (t : Token) : Type 0 where
@@ -37,3 +38,19 @@ pub record Formed (y : Tree.Condition) (c : Condition) (is is' : List Item) : Ty
   pub items : (xs : List Item) × (is' ≡ is ++ xs)
   pub sides : SidesIn (length is') c
   pub stand : conditionIn is' c ≡ y
+
+-- items alone are new
+pub record ItemsAlone (p q : Columns) : Type 0 where
+  pub room : q.items.room ≡ p.items.room
+  pub rest : q ≡ record p { items = q.items }
+
+-- conditions and items alone are
+pub record ConditionsAlone (p q : Columns) : Type 0 where
+  pub items : q.items.room ≡ p.items.room
+  pub room : q.conditions.room ≡ p.conditions.room
+  pub rest : q ≡ record p { conditions = q.conditions; items = q.items }
+
+-- parameters alone are
+pub record ParamsAlone (p q : Columns) : Type 0 where
+  pub room : q.params.room ≡ p.params.room
+  pub rest : q ≡ record p { params = q.params }

@@ -1,5 +1,5 @@
 -- The tree of a sheet with its names resolved: what a written sheet stands for.
-use Rattle.std.specs.Prelude.{ℕ, Bool, true, false, cond, List, [], ◌∷◌, ◌++◌, map, ℤ, pos, neg_ℤ, Some, None, Option}
+use Rattle.std.specs.Prelude.{ℕ, Bool, true, false, cond, List, [], ◌∷◌, map, ℤ, pos, neg_ℤ, Some, None, Option}
 use Rattle.std.specs.Option.{unwrap_or}
 use Rattle.letters.specs.declared.kind.Kind.{Kind}
 use Rattle.letters.specs.declared.kind.Kind.TheVariants as Kinds

@@ -1,25 +1,23 @@
 -- Written rules, resolved into the tables.
-use Rattle.std.specs.Prelude.{◌≡◌, ℕ, ◌+◌, ◌≤◌, List, [], ◌∷◌, ◌++◌, map, length}
+use Rattle.std.specs.Prelude.{◌≡◌, ℕ, ◌+◌, ◌≤◌, List, [], ◌++◌, map, length}
 use Rattle.letters.specs.declared.kind.Kind.TheVariants.{Needs, Gives}
 use Rattle.grammar.specs.Raw as Raw
 use Rattle.grammar.specs.Sheets as Sheets
 use Rattle.grammar.specs.Stretches.{params_at, optionalAt}
 use Rattle.grammar.specs.Trees.{look_of, rawAt}
 use Rattle.syntax.specs.Weights.{ruleWeight, weightOf}
-use Rattle.pile.specs.declared.Pile.{Pile}
-use Rattle.pile.specs.Entries.{entries, room}
 use Rattle.naming.specs.declared.written.Written.{Written}
 use Rattle.naming.specs.declared.taken.Ruled.{Ruled}
 use Rattle.naming.specs.Scopes.{Sheet}
 use Rattle.naming.specs.Sources.{source_of}
-use Rattle.language.specs.Tree as Tree
 use Rattle.records.specs.declared.entry.Param.{Param}
 use Rattle.records.specs.declared.entry.Entry.{Entry}
+use Rattle.records.specs.Columns.{Columns, tables_by}
 use Rattle.records.specs.Rules.{RuleStands, RulesStand}
 use Rattle.records.specs.Counting.{exprsUpTo, conditionsUpTo, claimsUpTo, nodesUpTo, listedUpTo}
 use Rattle.counting.specs.Counts.{sheetExprs, sheetConditions}
 use Rattle.resolving.specs.Resolving.{ruleOf}
-use Rattle.resolving.specs.Growing.{Piles, tablesBy, Made}
+use Rattle.resolving.specs.Growing.{Made}
 
 -- the rule whose parts are these, its body at a position below top
 abbrev pub ruleBy : Written → ℕ → Ruled → Raw.Rule
@@ -28,37 +26,50 @@ ruleBy w top k =
     let n = length w.tokens.now in
     Sheets.ruleOf (look_of s k.keyword) (look_of s k.name) (params_at n (look_of s) k.params) (optionalAt n (look_of s) Needs k.needs) (optionalAt n (look_of s) Gives k.gives) (rawAt s top w.nodes.now k.body)
 
--- a written rule is resolved into the tables, as an entry
-pub record RuleMade (S : Sheet) (r : Raw.Rule) (e : Entry) (p q : Piles) (ps qs : Pile Param) : Type 0 where
-  pub made : Made (ruleWeight r) (λ byte. exprsUpTo byte (ruleOf S r).body) (λ byte. (conditionsUpTo byte (ruleOf S r).needs + conditionsUpTo byte (ruleOf S r).gives) + claimsUpTo byte (ruleOf S r).body) (λ t. Unit {0}) p q
-  pub params : (more : List Param) × (entries qs ≡ entries ps ++ more)
-  pub few : length (entries qs) ≤ length (entries ps) + ruleWeight r
-  pub roomy : room qs ≡ room ps
-  pub stands : RuleStands (tablesBy q) (entries qs) e (ruleOf S r)
+-- the same with other parameters
+abbrev pub paramsOf : Columns → Columns → Columns
+paramsOf q p = record p { params = q.params }
+
+-- a written rule is resolved into the tables, as an entry that is not yet among them; the nodes of its body are new
+pub record RuleMade (S : Sheet) (r : Raw.Rule) (e : Entry) (p q : Columns) : Type 0 where
+  pub made : Made (ruleWeight r) (λ byte. exprsUpTo byte (ruleOf S r).body) (λ byte. (conditionsUpTo byte (ruleOf S r).needs + conditionsUpTo byte (ruleOf S r).gives) + claimsUpTo byte (ruleOf S r).body) (λ t. Unit {0}) (paramsOf q p) q
+  pub params : (more : List Param) × (q.params.entries ≡ p.params.entries ++ more)
+  pub few : length q.params.entries ≤ length p.params.entries + ruleWeight r
+  pub roomy : q.params.room ≡ p.params.room
+  pub stands : RuleStands (tables_by q) q.params.entries (length p.nodes.entries) e (ruleOf S r)
 
 -- written rules are, as entries
-pub record RulesMade (S : Sheet) (rs : List Raw.Rule) (p : Piles) (ps : Pile Param) (es : Pile Entry) : Type 0 where
-  pub stand : RulesStand (tablesBy p) (entries ps) (entries es) (map (ruleOf S) rs)
-  pub nodes : length (entries p.nodes) ≤ weightOf rs
-  pub conditions : length (entries p.conditions) ≤ weightOf rs
-  pub items : length (entries p.items) ≤ weightOf rs
-  pub params : length (entries ps) ≤ weightOf rs
-  pub rules : length (entries es) ≤ weightOf rs
-  pub exprs : (byte : ℕ) → nodesUpTo byte (entries p.nodes) ≡ sheetExprs byte (map (ruleOf S) rs)
-  pub claims : (byte : ℕ) → listedUpTo byte (entries p.conditions) ≡ sheetConditions byte (map (ruleOf S) rs)
+pub record RulesMade (S : Sheet) (rs : List Raw.Rule) (p : Columns) : Type 0 where
+  pub stand : RulesStand (tables_by p) p.params.entries 0 p.entries.entries (map (ruleOf S) rs)
+  pub nodes : length p.nodes.entries ≤ weightOf rs
+  pub conditions : length p.conditions.entries ≤ weightOf rs
+  pub items : length p.items.entries ≤ weightOf rs
+  pub params : length p.params.entries ≤ weightOf rs
+  pub rules : length p.entries.entries ≤ weightOf rs
+  pub exprs : (byte : ℕ) → nodesUpTo byte p.nodes.entries ≡ sheetExprs byte (map (ruleOf S) rs)
+  pub claims : (byte : ℕ) → listedUpTo byte p.conditions.entries ≡ sheetConditions byte (map (ruleOf S) rs)
 
 -- nothing lies in the tables yet
-pub record Empty (p : Piles) (ps : Pile Param) (es : Pile Entry) : Type 0 where
-  pub nodes : entries p.nodes ≡ []
-  pub conditions : entries p.conditions ≡ []
-  pub items : entries p.items ≡ []
-  pub params : entries ps ≡ []
-  pub rules : entries es ≡ []
+pub record Empty (p : Columns) : Type 0 where
+  pub nodes : p.nodes.entries ≡ []
+  pub conditions : p.conditions.entries ≡ []
+  pub items : p.items.entries ≡ []
+  pub params : p.params.entries ≡ []
+  pub rules : p.entries.entries ≡ []
 
 -- each table has room for so many
-pub record Ample (w : ℕ) (p : Piles) (ps : Pile Param) (es : Pile Entry) : Type 0 where
-  pub nodes : w ≤ room p.nodes
-  pub conditions : w ≤ room p.conditions
-  pub items : w ≤ room p.items
-  pub params : w ≤ room ps
-  pub rules : w ≤ room es
+pub record Ample (w : ℕ) (p : Columns) : Type 0 where
+  pub nodes : w ≤ p.nodes.room
+  pub conditions : w ≤ p.conditions.room
+  pub items : w ≤ p.items.room
+  pub params : w ≤ p.params.room
+  pub rules : w ≤ p.entries.room
+
+-- each table has the room that it had, in the same records
+pub record SameRooms (p q : Columns) : Type 0 where
+  pub nodes : q.nodes.room ≡ p.nodes.room
+  pub conditions : q.conditions.room ≡ p.conditions.room
+  pub items : q.items.room ≡ p.items.room
+  pub params : q.params.room ≡ p.params.room
+  pub entries : q.entries.room ≡ p.entries.room
+  pub lender : q.lender ≡ p.lender

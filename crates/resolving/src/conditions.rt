@@ -3,12 +3,12 @@ ghost use Rattle.letters.specs.Kinds.{sameKind};
 ghost use Rattle.grammar.specs.Sheets.{sumSign};
 ghost use Rattle.grammar.specs.Stretches.{item_at, sideAt, conditionAt, conditionsAt, optionalAt};
 ghost use Rattle.grammar.specs.Trees.{look_of};
-ghost use Rattle.pile.specs.Entries.{entries, room};
+ghost use Rattle.records.specs.Laying.{columns_of};
 ghost use Rattle.naming.specs.Reaches.{scope_of};
 ghost use Rattle.naming.specs.Sources.{source_of};
-ghost use Rattle.records.specs.Tables as tables;
+ghost use Rattle.records.specs.Tables as lists;
 ghost use Rattle.resolving.specs.Resolving.{signed, factorOf, atomOf, item_of, conditionOf, conditionsOf};
-ghost use Rattle.resolving.specs.Making.{Fit, Added, Listing, Formed};
+ghost use Rattle.resolving.specs.Making.{Fit, Added, Listing, Formed, ItemsAlone, ConditionsAlone};
 ghost use Rattle.syntax.specs.Weights.{conditionWeight, conditionsWeight};
 
 use crate::item::{ConditionAt, ItemAt};
@@ -16,12 +16,11 @@ use crate::lookups::slot;
 use crate::signs::comparison_of;
 use letters::{Kind, Token};
 use naming::Written;
-use pile::Pile;
-use records::{Atom, Condition, Item, Stretch};
+use records::{Atom, Condition, Item, Laid, Stretch};
 
 // What an item takes so many times.
 fn atom_of(sheet: Written<'_>, names: &[usize], token: Token) -> Atom
-    ensures { tables.atomOf result ≡ atomOf sheet.entry.text.now (scope_of sheet.entry names.now []) token }
+    ensures { lists.atomOf result ≡ atomOf sheet.entry.text.now (scope_of sheet.entry names.now []) token }
 {
     if token.kind.is(Kind::Name) {
         Atom::Named(slot(sheet, names, token))
@@ -54,7 +53,7 @@ fn factor_of(minus: bool, factor: Option<Token>, token: Token) -> i32
 fn item_at(sheet: Written<'_>, names: &[usize], minus: bool, at: usize) -> ItemAt
     requires fit { Fit sheet }
     requires near { at ≤ 16390 }
-    ensures item { tables.item_of result.item ≡ item_of sheet.entry.text.now (scope_of sheet.entry names.now []) (item_at (look_of (source_of sheet.entry)) minus at).value }
+    ensures item { lists.item_of result.item ≡ item_of sheet.entry.text.now (scope_of sheet.entry names.now []) (item_at (look_of (source_of sheet.entry)) minus at).value }
     ensures next { result.next ≡ (item_at (look_of (source_of sheet.entry)) minus at).next }
     ensures near { result.next ≤ at + 3 }
 {
@@ -88,23 +87,23 @@ fn is_sign(sheet: Written<'_>, at: usize) -> bool
 }
 
 // The items of the side at a position go into their table; the position after it is given.
-fn side_at(sheet: Written<'_>, names: &[usize], at: usize, items: &mut Pile<'_, Item>) -> usize
+fn side_at(sheet: Written<'_>, names: &[usize], at: usize, tables: &mut Laid<'_>) -> usize
     requires fit { Fit sheet }
     requires near { at ≤ 16390 }
-    requires room { length (entries items.old) + length (sideAt (length sheet.tokens.now) (look_of (source_of sheet)) at).value ≤ room items.old }
-    ensures added { Added tables.item_of (map (item_of sheet.entry.text.now (scope_of sheet.entry names.now [])) (sideAt (length sheet.entry.tokens.now) (look_of (source_of sheet.entry)) at).value) (entries items.old) (entries items.new) }
-    ensures room { room items.new ≡ room items.old }
+    requires room { length (columns_of tables.old).items.entries + length (sideAt (length sheet.tokens.now) (look_of (source_of sheet)) at).value ≤ (columns_of tables.old).items.room }
+    ensures added { Added lists.item_of (map (item_of sheet.entry.text.now (scope_of sheet.entry names.now [])) (sideAt (length sheet.entry.tokens.now) (look_of (source_of sheet.entry)) at).value) (columns_of tables.old).items.entries (columns_of tables.new).items.entries }
+    ensures others { ItemsAlone (columns_of tables.old) (columns_of tables.new) }
     ensures next { result ≡ (sideAt (length sheet.entry.tokens.now) (look_of (source_of sheet.entry)) at).next }
     ensures near { result ≤ max at 16384 + 3 }
 {
     let first = item_at(sheet, names, false, at);
-    items.push(first.item);
+    tables.push_item(first.item);
     let mut next = first.next;
     let mut rest = sheet.tokens.len();
     while rest > 0 && is_sign(sheet, next) {
         let minus = sheet.token(next).kind.is(Kind::Minus);
         let item = item_at(sheet, names, minus, next + 1);
-        items.push(item.item);
+        tables.push_item(item.item);
         next = item.next;
         rest -= 1;
     }
@@ -116,22 +115,22 @@ fn condition_at(
     sheet: Written<'_>,
     names: &[usize],
     at: usize,
-    items: &mut Pile<'_, Item>,
+    tables: &mut Laid<'_>,
 ) -> ConditionAt
     requires fit { Fit sheet }
     requires near { at ≤ 16384 }
-    requires room { length (entries items.old) + conditionWeight (conditionAt (length sheet.tokens.now) (look_of (source_of sheet)) at).value ≤ room items.old }
-    ensures formed { Formed (conditionOf sheet.entry.text.now (scope_of sheet.entry names.now []) (conditionAt (length sheet.entry.tokens.now) (look_of (source_of sheet.entry)) at).value) result.condition (entries items.old) (entries items.new) }
-    ensures size { length (entries items.new) ≤ length (entries items.old) + conditionWeight (conditionAt (length sheet.entry.tokens.now) (look_of (source_of sheet.entry)) at).value }
-    ensures room { room items.new ≡ room items.old }
+    requires room { length (columns_of tables.old).items.entries + conditionWeight (conditionAt (length sheet.tokens.now) (look_of (source_of sheet)) at).value ≤ (columns_of tables.old).items.room }
+    ensures formed { Formed (conditionOf sheet.entry.text.now (scope_of sheet.entry names.now []) (conditionAt (length sheet.entry.tokens.now) (look_of (source_of sheet.entry)) at).value) result.condition (columns_of tables.old).items.entries (columns_of tables.new).items.entries }
+    ensures size { length (columns_of tables.new).items.entries ≤ length (columns_of tables.old).items.entries + conditionWeight (conditionAt (length sheet.entry.tokens.now) (look_of (source_of sheet.entry)) at).value }
+    ensures others { ItemsAlone (columns_of tables.old) (columns_of tables.new) }
     ensures next { result.next ≡ (conditionAt (length sheet.entry.tokens.now) (look_of (source_of sheet.entry)) at).next }
     ensures near { result.next ≤ 16393 }
 {
-    let from = items.mark();
-    let sign = side_at(sheet, names, at, items);
-    let middle = items.mark();
-    let next = side_at(sheet, names, sign + 1, items);
-    let to = items.mark();
+    let from = tables.items();
+    let sign = side_at(sheet, names, at, tables);
+    let middle = tables.items();
+    let next = side_at(sheet, names, sign + 1, tables);
+    let to = tables.items();
     let condition = Condition {
         place: sheet.token(at).place,
         comparison: comparison_of(sheet.token(sign).kind),
@@ -147,31 +146,30 @@ pub(crate) fn conditions_at(
     sheet: Written<'_>,
     names: &[usize],
     at: usize,
-    conditions: &mut Pile<'_, Condition>,
-    items: &mut Pile<'_, Item>,
+    tables: &mut Laid<'_>,
 ) -> Stretch
     requires fit { Fit sheet }
-    requires conditions { length (entries conditions.old) + conditionsWeight (conditionsAt (length sheet.tokens.now) (look_of (source_of sheet)) at).value ≤ room conditions.old }
-    requires items { length (entries items.old) + conditionsWeight (conditionsAt (length sheet.tokens.now) (look_of (source_of sheet)) at).value ≤ room items.old }
-    ensures listing { Listing (conditionsOf sheet.entry.text.now (scope_of sheet.entry names.now []) (conditionsAt (length sheet.entry.tokens.now) (look_of (source_of sheet.entry)) at).value) (entries conditions.old) (entries conditions.new) (entries items.old) (entries items.new) }
-    ensures stretch { (result.from ≡ length (entries conditions.old)) × (result.to ≡ length (entries conditions.new)) }
-    ensures size { length (entries items.new) ≤ length (entries items.old) + conditionsWeight (conditionsAt (length sheet.entry.tokens.now) (look_of (source_of sheet.entry)) at).value }
-    ensures room { (room conditions.new ≡ room conditions.old) × (room items.new ≡ room items.old) }
+    requires conditions { length (columns_of tables.old).conditions.entries + conditionsWeight (conditionsAt (length sheet.tokens.now) (look_of (source_of sheet)) at).value ≤ (columns_of tables.old).conditions.room }
+    requires items { length (columns_of tables.old).items.entries + conditionsWeight (conditionsAt (length sheet.tokens.now) (look_of (source_of sheet)) at).value ≤ (columns_of tables.old).items.room }
+    ensures listing { Listing (conditionsOf sheet.entry.text.now (scope_of sheet.entry names.now []) (conditionsAt (length sheet.entry.tokens.now) (look_of (source_of sheet.entry)) at).value) (columns_of tables.old).conditions.entries (columns_of tables.new).conditions.entries (columns_of tables.old).items.entries (columns_of tables.new).items.entries }
+    ensures stretch { (result.from ≡ length (columns_of tables.old).conditions.entries) × (result.to ≡ length (columns_of tables.new).conditions.entries) }
+    ensures size { length (columns_of tables.new).items.entries ≤ length (columns_of tables.old).items.entries + conditionsWeight (conditionsAt (length sheet.entry.tokens.now) (look_of (source_of sheet.entry)) at).value }
+    ensures others { ConditionsAlone (columns_of tables.old) (columns_of tables.new) }
 {
-    let from = conditions.mark();
-    let first = condition_at(sheet, names, at.min(sheet.tokens.len()), items);
-    conditions.push(first.condition);
+    let from = tables.conditions();
+    let first = condition_at(sheet, names, at.min(sheet.tokens.len()), tables);
+    tables.push_condition(first.condition);
     let mut next = first.next;
     let mut rest = sheet.tokens.len();
     while rest > 0 && sheet.token(next).kind.is(Kind::Comma) {
-        let one = condition_at(sheet, names, next + 1, items);
-        conditions.push(one.condition);
+        let one = condition_at(sheet, names, next + 1, tables);
+        tables.push_condition(one.condition);
         next = one.next;
         rest -= 1;
     }
     Stretch {
         from,
-        to: conditions.mark(),
+        to: tables.conditions(),
     }
 }
 
@@ -181,22 +179,21 @@ pub(crate) fn optional_at(
     names: &[usize],
     keyword: Kind,
     at: usize,
-    conditions: &mut Pile<'_, Condition>,
-    items: &mut Pile<'_, Item>,
+    tables: &mut Laid<'_>,
 ) -> Stretch
     requires fit { Fit sheet }
     requires keyword { sameKind Kind.End keyword ≡ false }
-    requires conditions { length (entries conditions.old) + conditionsWeight (optionalAt (length sheet.tokens.now) (look_of (source_of sheet)) keyword at) ≤ room conditions.old }
-    requires items { length (entries items.old) + conditionsWeight (optionalAt (length sheet.tokens.now) (look_of (source_of sheet)) keyword at) ≤ room items.old }
-    ensures listing { Listing (conditionsOf sheet.entry.text.now (scope_of sheet.entry names.now []) (optionalAt (length sheet.entry.tokens.now) (look_of (source_of sheet.entry)) keyword at)) (entries conditions.old) (entries conditions.new) (entries items.old) (entries items.new) }
-    ensures stretch { (result.from ≡ length (entries conditions.old)) × (result.to ≡ length (entries conditions.new)) }
-    ensures size { length (entries items.new) ≤ length (entries items.old) + conditionsWeight (optionalAt (length sheet.entry.tokens.now) (look_of (source_of sheet.entry)) keyword at) }
-    ensures room { (room conditions.new ≡ room conditions.old) × (room items.new ≡ room items.old) }
+    requires conditions { length (columns_of tables.old).conditions.entries + conditionsWeight (optionalAt (length sheet.tokens.now) (look_of (source_of sheet)) keyword at) ≤ (columns_of tables.old).conditions.room }
+    requires items { length (columns_of tables.old).items.entries + conditionsWeight (optionalAt (length sheet.tokens.now) (look_of (source_of sheet)) keyword at) ≤ (columns_of tables.old).items.room }
+    ensures listing { Listing (conditionsOf sheet.entry.text.now (scope_of sheet.entry names.now []) (optionalAt (length sheet.entry.tokens.now) (look_of (source_of sheet.entry)) keyword at)) (columns_of tables.old).conditions.entries (columns_of tables.new).conditions.entries (columns_of tables.old).items.entries (columns_of tables.new).items.entries }
+    ensures stretch { (result.from ≡ length (columns_of tables.old).conditions.entries) × (result.to ≡ length (columns_of tables.new).conditions.entries) }
+    ensures size { length (columns_of tables.new).items.entries ≤ length (columns_of tables.old).items.entries + conditionsWeight (optionalAt (length sheet.entry.tokens.now) (look_of (source_of sheet.entry)) keyword at) }
+    ensures others { ConditionsAlone (columns_of tables.old) (columns_of tables.new) }
 {
     if sheet.token(at).kind.is(keyword) {
-        conditions_at(sheet, names, at + 1, conditions, items)
+        conditions_at(sheet, names, at + 1, tables)
     } else {
-        let here = conditions.mark();
+        let here = tables.conditions();
         Stretch {
             from: here,
             to: here,

@@ -6,7 +6,8 @@ ghost use Rattle.pile.specs.Entries.{entries, room};
 ghost use Rattle.naming.specs.Reaches.{tokensOf, scope_of, sheetOf};
 ghost use Rattle.naming.specs.Sources.{source_of, rulesOf};
 ghost use Rattle.resolving.specs.Making.{Fit};
-ghost use Rattle.resolving.specs.Growing.{piles, Roomy, ExprMade, ArgsMade};
+ghost use Rattle.records.specs.Laying.{columns_of};
+ghost use Rattle.resolving.specs.Growing.{Roomy, ExprMade, ArgsMade};
 
 use crate::conditions::conditions_at;
 use crate::context::Context;
@@ -15,52 +16,50 @@ use crate::nodes::{add, bare, place};
 use crate::signs::{comparison_of, operator_of};
 use grammar::Node;
 use pile::Pile;
-use records::{Condition, Item, Node as Resolved};
+use records::{Laid, Node as Resolved};
 
 // The expression at a position below `top` goes into the tables; its position there is given. The names in force are the same again afterwards.
 #[cycle(argument_arguments_expr)]
 pub(crate) fn expr(
-    context: Context<'_, '_, '_>,
+    context: &Context<'_, '_, '_>,
     names: &mut Pile<'_, usize>,
     top: usize,
     at: usize,
-    nodes: &mut Pile<'_, Resolved>,
-    conditions: &mut Pile<'_, Condition>,
-    items: &mut Pile<'_, Item>,
+    tables: &mut Laid<'_>,
 ) -> usize
-    requires fit { Fit context.sheet }
-    requires rules { tokensOf context.sheet context.rules.now ≡ map (λ (r : raw.Rule). r.name) (rulesOf context.sheet) }
+    requires fit { Fit context.now.sheet }
+    requires rules { tokensOf context.now.sheet context.now.rules.now ≡ map (λ (r : raw.Rule). r.name) (rulesOf context.now.sheet) }
     requires names { length (entries names.old) + top ≤ room names.old }
-    requires roomy { Roomy (exprWeight (rawAt (source_of context.sheet) top context.sheet.nodes.now at)) (piles nodes.old conditions.old items.old) }
-    ensures made { ExprMade (sheetOf context.entry.sheet) (scope_of context.entry.sheet (entries names.old) context.entry.lists.now) (rawAt (source_of context.entry.sheet) top context.entry.sheet.nodes.now at) result (piles nodes.old conditions.old items.old) (piles nodes.new conditions.new items.new) }
+    requires roomy { Roomy (exprWeight (rawAt (source_of context.now.sheet) top context.now.sheet.nodes.now at)) (columns_of tables.old) }
+    ensures made { ExprMade (sheetOf context.now.sheet) (scope_of context.now.sheet (entries names.old) context.now.lists.now) (rawAt (source_of context.now.sheet) top context.now.sheet.nodes.now at) result (columns_of tables.old) (columns_of tables.new) }
     ensures names { (entries names.new ≡ entries names.old) × (room names.new ≡ room names.old) }
 {
     let sheet = context.sheet;
     let Some(node) = sheet.node(top, at) else {
-        return add(nodes, Resolved::Num { place: 0, value: 0 });
+        return add(tables, Resolved::Num { place: 0, value: 0 });
     };
     match node {
         Node::Blank | Node::NoArgs | Node::Arg(_, _) | Node::Rule(_, _, _, _, _, _) => add(
-            nodes,
+            tables,
             Resolved::Num { place: 0, value: 0 },
         ),
         Node::Num(t) => {
             let value = sheet.token(t).value;
             let place = place(sheet, t);
-            add(nodes, Resolved::Num { place, value })
+            add(tables, Resolved::Num { place, value })
         }
         Node::Name(t) => {
             let slot = slot(sheet, names.as_slice(), sheet.token(t));
             let place = place(sheet, t);
-            add(nodes, Resolved::Name { place, slot })
+            add(tables, Resolved::Name { place, slot })
         }
         Node::Calc(t, a, b) => {
-            let left = expr(context, names, at, a, nodes, conditions, items);
-            let right = expr(context, names, at, b, nodes, conditions, items);
+            let left = expr(context, names, at, a, tables);
+            let right = expr(context, names, at, b, tables);
             let operator = operator_of(sheet.token(t).kind);
             let place = place(sheet, t);
             add(
-                nodes,
+                tables,
                 Resolved::Calc {
                     place,
                     operator,
@@ -70,11 +69,11 @@ pub(crate) fn expr(
             )
         }
         Node::Read(t, a) => {
-            let index = expr(context, names, at, a, nodes, conditions, items);
+            let index = expr(context, names, at, a, tables);
             let list = slot(sheet, context.lists, sheet.token(t));
             let place = place(sheet, t);
             add(
-                nodes,
+                tables,
                 Resolved::Read {
                     place,
                     number: 0,
@@ -84,30 +83,30 @@ pub(crate) fn expr(
             )
         }
         Node::Call(t, xs) => {
-            let none = add(nodes, Resolved::End);
-            let args = arguments(context, names, at, xs, none, nodes, conditions, items);
+            let none = add(tables, Resolved::End);
+            let args = arguments(context, names, at, xs, none, tables);
             let rule = slot(sheet, context.rules, sheet.token(t));
             let place = place(sheet, t);
-            add(nodes, Resolved::Call { place, rule, args })
+            add(tables, Resolved::Call { place, rule, args })
         }
         Node::Bind(t, n, a, b) => {
-            let bound = expr(context, names, at, a, nodes, conditions, items);
+            let bound = expr(context, names, at, a, tables);
             let mark = names.mark();
             names.push(n);
-            let body = expr(context, names, at, b, nodes, conditions, items);
+            let body = expr(context, names, at, b, tables);
             names.fall_back(mark);
             let place = place(sheet, t);
-            add(nodes, Resolved::Bind { place, bound, body })
+            add(tables, Resolved::Bind { place, bound, body })
         }
         Node::Test(t, c, a, b, d, e) => {
-            let left = expr(context, names, at, a, nodes, conditions, items);
-            let right = expr(context, names, at, b, nodes, conditions, items);
-            let met = expr(context, names, at, d, nodes, conditions, items);
-            let unmet = expr(context, names, at, e, nodes, conditions, items);
+            let left = expr(context, names, at, a, tables);
+            let right = expr(context, names, at, b, tables);
+            let met = expr(context, names, at, d, tables);
+            let unmet = expr(context, names, at, e, tables);
             let comparison = comparison_of(sheet.token(c).kind);
             let place = place(sheet, t);
             add(
-                nodes,
+                tables,
                 Resolved::Test {
                     place,
                     comparison,
@@ -119,14 +118,14 @@ pub(crate) fn expr(
             )
         }
         Node::Put(t, l, a, b, e) => {
-            let index = expr(context, names, at, a, nodes, conditions, items);
-            let value = expr(context, names, at, b, nodes, conditions, items);
-            let rest = expr(context, names, at, e, nodes, conditions, items);
+            let index = expr(context, names, at, a, tables);
+            let value = expr(context, names, at, b, tables);
+            let rest = expr(context, names, at, e, tables);
             let list = slot(sheet, context.lists, sheet.token(l));
             let site = place(sheet, l);
             let place = place(sheet, t);
             add(
-                nodes,
+                tables,
                 Resolved::Put {
                     place,
                     site,
@@ -139,11 +138,11 @@ pub(crate) fn expr(
             )
         }
         Node::Claim(t, c, a) => {
-            let claimed = expr(context, names, at, a, nodes, conditions, items);
-            let listed = conditions_at(sheet, names.as_slice(), c, conditions, items);
+            let claimed = expr(context, names, at, a, tables);
+            let listed = conditions_at(sheet, names.as_slice(), c, tables);
             let place = place(sheet, t);
             add(
-                nodes,
+                tables,
                 Resolved::Claim {
                     place,
                     claimed,
@@ -152,44 +151,31 @@ pub(crate) fn expr(
                 },
             )
         }
-        Node::Nest(_, a) => expr(context, names, at, a, nodes, conditions, items),
+        Node::Nest(_, a) => expr(context, names, at, a, tables),
     }
 }
 
 // The arguments at a position below `top` go into the tables, before those that stand at `after`.
 #[cycle(argument_arguments_expr)]
 fn arguments(
-    context: Context<'_, '_, '_>,
+    context: &Context<'_, '_, '_>,
     names: &mut Pile<'_, usize>,
     top: usize,
     at: usize,
     after: usize,
-    nodes: &mut Pile<'_, Resolved>,
-    conditions: &mut Pile<'_, Condition>,
-    items: &mut Pile<'_, Item>,
+    tables: &mut Laid<'_>,
 ) -> usize
-    requires fit { Fit context.sheet }
-    requires rules { tokensOf context.sheet context.rules.now ≡ map (λ (r : raw.Rule). r.name) (rulesOf context.sheet) }
+    requires fit { Fit context.now.sheet }
+    requires rules { tokensOf context.now.sheet context.now.rules.now ≡ map (λ (r : raw.Rule). r.name) (rulesOf context.now.sheet) }
     requires names { length (entries names.old) + top ≤ room names.old }
-    requires roomy { Roomy (argsWeight (argsAt (source_of context.sheet) top context.sheet.nodes.now at)) (piles nodes.old conditions.old items.old) }
-    ensures made { ArgsMade (sheetOf context.entry.sheet) (scope_of context.entry.sheet (entries names.old) context.entry.lists.now) (argsAt (source_of context.entry.sheet) top context.entry.sheet.nodes.now at) after result (piles nodes.old conditions.old items.old) (piles nodes.new conditions.new items.new) }
+    requires roomy { Roomy (argsWeight (argsAt (source_of context.now.sheet) top context.now.sheet.nodes.now at)) (columns_of tables.old) }
+    ensures made { ArgsMade (sheetOf context.now.sheet) (scope_of context.now.sheet (entries names.old) context.now.lists.now) (argsAt (source_of context.now.sheet) top context.now.sheet.nodes.now at) after result (columns_of tables.old) (columns_of tables.new) }
     ensures names { (entries names.new ≡ entries names.old) × (room names.new ≡ room names.old) }
 {
     match context.sheet.last(top, at) {
         Some(part) => {
-            let link = argument(
-                context, names, at, part.last, after, nodes, conditions, items,
-            );
-            arguments(
-                context,
-                names,
-                at,
-                part.before,
-                link,
-                nodes,
-                conditions,
-                items,
-            )
+            let link = argument(context, names, at, part.last, after, tables);
+            arguments(context, names, at, part.before, link, tables)
         }
         None => after,
     }
@@ -198,28 +184,26 @@ fn arguments(
 // One argument, before those that stand at `after`.
 #[cycle(argument_arguments_expr)]
 fn argument(
-    context: Context<'_, '_, '_>,
+    context: &Context<'_, '_, '_>,
     names: &mut Pile<'_, usize>,
     top: usize,
     at: usize,
     after: usize,
-    nodes: &mut Pile<'_, Resolved>,
-    conditions: &mut Pile<'_, Condition>,
-    items: &mut Pile<'_, Item>,
+    tables: &mut Laid<'_>,
 ) -> usize
-    requires fit { Fit context.sheet }
-    requires rules { tokensOf context.sheet context.rules.now ≡ map (λ (r : raw.Rule). r.name) (rulesOf context.sheet) }
+    requires fit { Fit context.now.sheet }
+    requires rules { tokensOf context.now.sheet context.now.rules.now ≡ map (λ (r : raw.Rule). r.name) (rulesOf context.now.sheet) }
     requires names { length (entries names.old) + top ≤ room names.old }
-    requires roomy { Roomy (exprWeight (rawAt (source_of context.sheet) top context.sheet.nodes.now at) + 1) (piles nodes.old conditions.old items.old) }
-    ensures made { ArgsMade (sheetOf context.entry.sheet) (scope_of context.entry.sheet (entries names.old) context.entry.lists.now) (raw.more raw.none (rawAt (source_of context.entry.sheet) top context.entry.sheet.nodes.now at)) after result (piles nodes.old conditions.old items.old) (piles nodes.new conditions.new items.new) }
+    requires roomy { Roomy (exprWeight (rawAt (source_of context.now.sheet) top context.now.sheet.nodes.now at) + 1) (columns_of tables.old) }
+    ensures made { ArgsMade (sheetOf context.now.sheet) (scope_of context.now.sheet (entries names.old) context.now.lists.now) (raw.more raw.none (rawAt (source_of context.now.sheet) top context.now.sheet.nodes.now at)) after result (columns_of tables.old) (columns_of tables.new) }
     ensures names { (entries names.new ≡ entries names.old) × (room names.new ≡ room names.old) }
 {
     match bare(context.sheet, context.lists, top, at) {
-        Some(list) => add(nodes, Resolved::Lent { list, rest: after }),
+        Some(list) => add(tables, Resolved::Lent { list, rest: after }),
         None => {
-            let argument = expr(context, names, top, at, nodes, conditions, items);
+            let argument = expr(context, names, top, at, tables);
             add(
-                nodes,
+                tables,
                 Resolved::Value {
                     argument,
                     rest: after,

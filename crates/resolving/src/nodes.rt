@@ -1,24 +1,23 @@
 ghost use Rattle.std.specs.Prelude.{◌≡◌, ◌<◌, ◌≤◌, [], ◌∷◌, ◌++◌, length};
 ghost use Rattle.grammar.specs.Trees.{look_of, rawAt};
-ghost use Rattle.pile.specs.Entries.{entries, room};
+ghost use Rattle.records.specs.Laying.{columns_of};
+ghost use Rattle.resolving.specs.Growing.{added};
 ghost use Rattle.naming.specs.Faults.{bareList};
 ghost use Rattle.naming.specs.Reaches.{tokensOf};
 ghost use Rattle.naming.specs.Sources.{source_of};
 
 use crate::lookups::find;
 use naming::Written;
-use pile::Pile;
-use records::Node;
+use records::{Laid, Node};
 
 // Puts a node on top of the others and gives its position.
-pub(crate) fn add(nodes: &mut Pile<'_, Node>, node: Node) -> usize
-    requires { length (entries nodes.old) < room nodes.old }
-    ensures position { result ≡ length (entries nodes.old) }
-    ensures held { entries nodes.new ≡ entries nodes.old ++ node ∷ [] }
-    ensures room { room nodes.new ≡ room nodes.old }
+pub(crate) fn add(tables: &mut Laid<'_>, node: Node) -> usize
+    requires { length (columns_of tables.old).nodes.entries < (columns_of tables.old).nodes.room }
+    ensures position { result ≡ length (columns_of tables.old).nodes.entries }
+    ensures held { columns_of tables.new ≡ added (columns_of tables.old) node }
 {
-    let here = nodes.mark();
-    nodes.push(node);
+    let here = tables.nodes();
+    tables.push_node(node);
     here
 }
 

@@ -1,19 +1,23 @@
-use Rattle.std.proofs.Common.{◌<◌, length, sym, ap, ◌∙◌, arith}
+use Rattle.std.proofs.Common.{◌≡◌, ◌<◌, None, length, sym, ap, ◌∙◌, arith}
 use Rattle.std.proofs.lemmas.List.{take_all}
 use Rattle.std.proofs.lemmas.List.Sums.{count_by_more_yes, count_by_more_no}
+use Rattle.records.specs.Laying.{columns_of}
 use Rattle.counting.specs.Counts.{isUpTo, placedUpTo}
+use Rattle.counting.specs.Places.{placesIn}
 use Rattle.counting.proofs.search.count_up_to.Goals as goal
 use Rattle.counting.proofs.search.count_up_to.Goals.{then-is_up_to, else-is_up_to}
 
-pub loop-item-preserved : goal.loop-item-preserved
-loop-item-preserved g c =
-    let place = g.T.Placed.place in let xs = c.args.entries.now in let i = c.loop-item.item-index in let x = c.item-item.result in
-    let h : i < length xs = omega arith in
-    let e = sym (ap (λ y. isUpTo c.args.place (place y)) c.item-item.is) in
+pub loop-at-preserved : goal.loop-at-preserved
+loop-at-preserved c =
+    let xs = placesIn (columns_of c.args.tables.now) c.args.table in let at = c.loop-at.at in let p = isUpTo c.args.place in
+    let h : at < length xs = omega arith in
     elim c.if-is_up_to.branch [
-      | then-is_up_to w ↦ let k = count_by_more_yes (λ y. isUpTo c.args.place (place y)) xs i x h (e ∙ sym w.if-is_up_to.ensures) in (omega (arith, w.count-is, c.loop-item.invariant.0), omega (arith, w.count-is, c.loop-item.invariant.1))
-      | else-is_up_to w ↦ let k = count_by_more_no (λ y. isUpTo c.args.place (place y)) xs i x h (e ∙ sym w.if-is_up_to.ensures) in (omega (arith, w.count-is, c.loop-item.invariant.0), omega (arith, w.count-is, c.loop-item.invariant.1))
+      | then-is_up_to w ↦ let k = count_by_more_yes p xs at None h (ap p (sym c.place.ensures) ∙ sym w.if-is_up_to.ensures) in (omega (arith, w.count-is, c.loop-at.invariant.0), omega (arith, w.count-is, c.loop-at.invariant.1))
+      | else-is_up_to w ↦ let k = count_by_more_no p xs at None h (ap p (sym c.place.ensures) ∙ sym w.if-is_up_to.ensures) in (omega (arith, w.count-is, c.loop-at.invariant.0), omega (arith, w.count-is, c.loop-at.invariant.1))
     ]
 
 pub returns : goal.returns
-returns g c = c.loop-item.invariant.0 ∙ ap (λ xs. placedUpTo g.T.Placed.place xs c.args.place) (take_all c.loop-item.item-index c.args.entries.now (omega arith))
+returns c =
+    let xs = placesIn (columns_of c.args.tables.now) c.args.table in
+    let e : c.loop-at.at ≡ length xs = omega arith in
+    c.loop-at.invariant.0 ∙ ap (λ ys. placedUpTo (λ place. place) ys c.args.place) (take_all c.loop-at.at xs (omega (arith, e)))

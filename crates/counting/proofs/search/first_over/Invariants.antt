@@ -1,11 +1,12 @@
 use Rattle.std.proofs.Common.{ℕ, ◌-◌, ◌<◌, ◌≤◌}
-use Rattle.counting.specs.Counts.{placedUpTo}
+use Rattle.records.specs.Laying.{columns_of}
+use Rattle.counting.specs.Places.{placedIn}
 use Rattle.counting.proofs.search.first_over.Given as goal
 
 abbrev pub invariant-loop-low : goal.invariant-loop-low
-invariant-loop-low g l =
-    (l.low ≤ l.high) × (l.high ≤ l.bytes) × (l.limit < placedUpTo g.T.Placed.place l.entries l.high)
-    × ((q : ℕ) → q < l.low → placedUpTo g.T.Placed.place l.entries q ≤ l.limit)
+invariant-loop-low l =
+    (l.low ≤ l.high) × (l.high ≤ l.bytes) × (l.limit < placedIn (columns_of l.tables) l.table l.high)
+    × ((q : ℕ) → q < l.low → placedIn (columns_of l.tables) l.table q ≤ l.limit)
 
 abbrev pub decreases-loop-low : goal.decreases-loop-low
-decreases-loop-low g l = l.high - l.low
+decreases-loop-low l = l.high - l.low

@@ -3,14 +3,15 @@ use Rattle.std.proofs.lemmas.List.{length-map}
 use Rattle.letters.specs.declared.token.Token.{Token}
 use Rattle.grammar.specs.Stretches.{sideAt, conditionAt}
 use Rattle.grammar.specs.Trees.{look_of}
-use Rattle.pile.specs.Entries.{entries}
+use Rattle.records.specs.Laying.{columns_of}
 use Rattle.naming.specs.Reaches.{scope_of}
 use Rattle.naming.specs.Sources.{source_of}
-use Rattle.records.specs.Tables as tables
+use Rattle.records.specs.Tables as lists
 use Rattle.resolving.specs.Resolving.{item_of, comparisonOf}
 use Rattle.resolving.specs.Making.{Added}
 use Rattle.resolving.proofs.Adding.{size}
 use Rattle.resolving.proofs.Listings.{side-place, formed}
+use Rattle.resolving.proofs.Alone.{items_then}
 use Rattle.resolving.proofs.conditions.condition_at.Goals as goal
 
 pub side_at-next-requires : goal.side_at-next-requires
@@ -18,12 +19,12 @@ side_at-next-requires c =
     let w = c.args.sheet in let l = look_of (source_of w) in let n = length w.tokens.now in let f = c.side_at-sign in
     let R = item_of w.text.now (scope_of w c.args.names.now []) in
     let e : f.result + 1 ≡ suc (sideAt n l c.args.at).next = omega (arith, f.ensures.next) in
-    let k = size tables.item_of _ (entries c.args.items.now) (entries f.new.items) f.ensures.added in
+    let k = size lists.item_of _ (columns_of c.args.tables.now).items.entries (columns_of f.new.tables).items.entries f.ensures.added in
     let m = length-map (sideAt n l c.args.at).value R in
     let g = ap (λ i. length (sideAt n l i).value) e in record {
       fit = c.requires.fit;
       near = omega (arith, f.ensures.near, c.requires.near);
-      room = omega (arith, c.requires.room, f.ensures.room);
+      room = omega (arith, c.requires.room, f.ensures.others.room);
     }
 
 pub returns : goal.returns
@@ -31,19 +32,19 @@ returns c =
     let w = c.args.sheet in let l = look_of (source_of w) in let n = length w.tokens.now in let f = c.side_at-sign in let g = c.side_at-next in
     let R = item_of w.text.now (scope_of w c.args.names.now []) in
     let e : f.result + 1 ≡ suc (sideAt n l c.args.at).next = omega (arith, f.ensures.next) in
-    let k = size tables.item_of _ (entries c.args.items.now) (entries f.new.items) f.ensures.added in
+    let k = size lists.item_of _ (columns_of c.args.tables.now).items.entries (columns_of f.new.tables).items.entries f.ensures.added in
     let m = length-map (sideAt n l c.args.at).value R in
-    let k2 = size tables.item_of _ (entries f.new.items) (entries g.new.items) g.ensures.added in
+    let k2 = size lists.item_of _ (columns_of f.new.tables).items.entries (columns_of g.new.tables).items.entries g.ensures.added in
     let m2 = length-map (sideAt n l (f.result + 1)).value R in
     let d = ap (λ i. length (sideAt n l i).value) e in
-    let b : Added tables.item_of (map R (sideAt n l (suc (sideAt n l c.args.at).next)).value) (entries f.new.items) (entries g.new.items) =
-    subst (λ i. Added tables.item_of (map R (sideAt n l i).value) (entries f.new.items) (entries g.new.items)) e g.ensures.added in record {
-      formed = formed w.text.now (scope_of w c.args.names.now []) (conditionAt n l c.args.at).value _ (entries c.args.items.now) (entries f.new.items) (entries g.new.items) f.ensures.added b
+    let b : Added lists.item_of (map R (sideAt n l (suc (sideAt n l c.args.at).next)).value) (columns_of f.new.tables).items.entries (columns_of g.new.tables).items.entries =
+    subst (λ i. Added lists.item_of (map R (sideAt n l i).value) (columns_of f.new.tables).items.entries (columns_of g.new.tables).items.entries) e g.ensures.added in record {
+      formed = formed w.text.now (scope_of w c.args.names.now []) (conditionAt n l c.args.at).value _ (columns_of c.args.tables.now).items.entries (columns_of f.new.tables).items.entries (columns_of g.new.tables).items.entries f.ensures.added b
           (ap (λ (t : Token). t.place) c.token.ensures ∙ sym (side-place l n c.args.at))
           (c.comparison_of.ensures ∙ ap (λ (t : Token). comparisonOf t.kind) (c.token-2.ensures ∙ ap l f.ensures.next))
-          c.mark-from.ensures c.mark-middle.ensures c.mark-to.ensures;
+          c.items-from.ensures c.items-middle.ensures c.items-to.ensures;
       size = omega arith;
-      room = g.ensures.room ∙ f.ensures.room;
+      others = items_then f.ensures.others g.ensures.others;
       next = g.ensures.next ∙ ap (λ i. (sideAt n l i).next) e;
       near = omega (arith, f.ensures.near, g.ensures.near, c.requires.near);
     }

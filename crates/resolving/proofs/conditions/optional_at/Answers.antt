@@ -1,16 +1,16 @@
-use Rattle.std.proofs.Common.{◌≡◌, ℕ, suc, ◌+◌, Bool, true, false, cond, List, [], map, length, sym, refl, ap, ◌∙◌, subst, arith}
+use Rattle.std.proofs.Common.{◌≡◌, suc, ◌+◌, cond, [], length, sym, ap, ◌∙◌, subst, arith}
 use Rattle.grammar.specs.Parsers.{is_a}
-use Rattle.grammar.specs.Raw as Raw
 use Rattle.grammar.specs.Stretches.{conditionsAt, optionalAt}
 use Rattle.grammar.specs.Trees.{look_of}
 use Rattle.syntax.specs.Weights.{conditionsWeight}
-use Rattle.pile.specs.Entries.{entries, room}
+use Rattle.records.specs.Laying.{columns_of}
 use Rattle.naming.specs.Reaches.{scope_of}
 use Rattle.naming.specs.Sources.{source_of}
 use Rattle.naming.proofs.Begins.{stands}
 use Rattle.resolving.specs.Resolving.{conditionsOf}
 use Rattle.resolving.specs.Making.{Listing}
 use Rattle.resolving.proofs.Listings.{listing_none}
+use Rattle.resolving.proofs.Alone.{conditions_none}
 use Rattle.resolving.proofs.conditions.optional_at.Goals as goal
 
 pub overflow_add-at : goal.overflow_add-at
@@ -35,18 +35,18 @@ returns-then-is c =
     let e : (conditionsAt n l (c.args.at + 1)).value ≡ optionalAt n l c.args.keyword c.args.at =
     ap (λ j. (conditionsAt n l j).value) (let s : c.args.at + 1 ≡ suc c.args.at = omega arith in s) ∙ ap (λ b. cond b (conditionsAt n l (suc c.args.at)).value []) (c.if-is.ensures ∙ ap (is_a c.args.keyword) c.token.ensures) in
     let k = ap conditionsWeight e in let f = c.conditions_at in record {
-      listing = subst (λ xs. Listing (conditionsOf w.text.now (scope_of w c.args.names.now []) xs) (entries c.args.conditions.now) (entries f.new.conditions) (entries c.args.items.now) (entries f.new.items)) e f.ensures.listing;
+      listing = subst (λ xs. Listing (conditionsOf w.text.now (scope_of w c.args.names.now []) xs) (columns_of c.args.tables.now).conditions.entries (columns_of f.new.tables).conditions.entries (columns_of c.args.tables.now).items.entries (columns_of f.new.tables).items.entries) e f.ensures.listing;
       stretch = f.ensures.stretch;
       size = omega (arith, f.ensures.size);
-      room = f.ensures.room;
+      others = f.ensures.others;
     }
 
 pub returns-else-is : goal.returns-else-is
 returns-else-is c =
     let w = c.args.sheet in let l = look_of (source_of w) in let n = length w.tokens.now in
     let e : [] ≡ optionalAt n l c.args.keyword c.args.at = ap (λ b. cond b (conditionsAt n l (suc c.args.at)).value []) (c.if-is.ensures ∙ ap (is_a c.args.keyword) c.token.ensures) in record {
-      listing = subst (λ xs. Listing (conditionsOf w.text.now (scope_of w c.args.names.now []) xs) (entries c.args.conditions.now) (entries c.args.conditions.now) (entries c.args.items.now) (entries c.args.items.now)) e (listing_none _ _);
-      stretch = (c.mark-here.ensures, c.mark-here.ensures);
+      listing = subst (λ xs. Listing (conditionsOf w.text.now (scope_of w c.args.names.now []) xs) (columns_of c.args.tables.now).conditions.entries (columns_of c.args.tables.now).conditions.entries (columns_of c.args.tables.now).items.entries (columns_of c.args.tables.now).items.entries) e (listing_none _ _);
+      stretch = (c.conditions-here.ensures, c.conditions-here.ensures);
       size = omega arith;
-      room = (refl, refl);
+      others = conditions_none;
     }

@@ -1,23 +1,23 @@
-use Rattle.std.proofs.Common.{◌≡◌, ℕ, ◌+◌, ◌-◌, false, List, [], ◌∷◌, map, length, sym, refl, ap, ◌∙◌, arith}
+use Rattle.std.proofs.Common.{◌≡◌, ℕ, ◌+◌, ◌-◌, false, [], ◌∷◌, map, length, sym, refl, ap, ◌∙◌, arith}
 use Rattle.std.proofs.lemmas.List.{length_push}
 use Rattle.letters.specs.declared.kind.Kind.TheVariants.{Minus}
 use Rattle.letters.specs.declared.token.Token.{Token}
 use Rattle.grammar.specs.Parsers.{is_a}
 use Rattle.grammar.specs.Sheets.{sumSign}
-use Rattle.grammar.specs.Stretches.{item_at, sideAt}
+use Rattle.grammar.specs.Stretches.{item_at}
 use Rattle.grammar.specs.Trees.{look_of}
-use Rattle.grammar.specs.Raw as Raw
-use Rattle.pile.specs.Entries.{entries, room}
+use Rattle.records.specs.Laying.{columns_of}
 use Rattle.naming.specs.Reaches.{scope_of}
 use Rattle.naming.specs.Sources.{source_of}
 use Rattle.naming.specs.Stretching.{items, itemsEnd}
 use Rattle.naming.proofs.Joins.{rest-none, rest_out}
 use Rattle.naming.proofs.Turns.{side-list, side-end, end_more, end_none, end-out, sign-stands}
-use Rattle.language.specs.Tree as Tree
-use Rattle.records.specs.Tables as tables
+use Rattle.records.specs.Tables as lists
 use Rattle.resolving.specs.Resolving.{item_of}
-use Rattle.resolving.proofs.Adding.{pushed, begun, turn, whole, fits, onto}
+use Rattle.resolving.proofs.Adding.{begun, turn, whole, onto}
 use Rattle.resolving.proofs.Rests.{rest_more}
+use Rattle.records.specs.Columns.{Columns}
+use Rattle.resolving.proofs.Alone.{item_taken, item_alone, items_then, items_none}
 use Rattle.resolving.proofs.conditions.side_at.Goals as goal
 
 pub loop-rest-init : goal.loop-rest-init
@@ -25,11 +25,12 @@ loop-rest-init c =
     let w = c.args.sheet in let l = look_of (source_of w) in let n = length w.tokens.now in
     let s = ap length (side-list l n c.args.at) in
     let e = ap (λ i. length (items l n i)) c.item_at-first.ensures.next in
-    let p = pushed (entries c.args.items.now) _ c.item_at-first.result.item c.push.result (room c.args.items.now) c.push.ensures.value (omega (arith, c.requires.room)) c.push.ensures.held in
-    let k = ap length p ∙ length_push (entries c.args.items.now) c.item_at-first.result.item in (
-      begun tables.item_of _ (entries c.push.new.self),
-      omega (arith, c.requires.room, c.push.ensures.room),
-      refl,
+    let g = item_taken (columns_of c.args.tables.now) (columns_of c.push_item.new.self) c.item_at-first.result.item c.push_item.result c.push_item.ensures.value (omega (arith, c.requires.room)) c.push_item.ensures.held in
+    let p = ap (λ (c : Columns). c.items.entries) g in
+    let k = ap length p ∙ length_push (columns_of c.args.tables.now).items.entries c.item_at-first.result.item in (
+      begun lists.item_of _ (columns_of c.push_item.new.self).items.entries,
+      omega (arith, c.requires.room, ap (λ (c : Columns). c.items.room) g),
+      items_none,
       refl,
       omega (arith, c.item_at-first.ensures.near),
     )
@@ -50,12 +51,13 @@ loop-rest-preserved c =
     let more = rest_more l sumSign one c.loop-rest.rest c.loop-rest.next c.loop-rest-test.true (sym c.if-is_sign.ensures) in
     let next : f.result.next ≡ (item_at l m (c.loop-rest.next + 1)).next = f.ensures.next ∙ ap (λ b. (item_at l b (c.loop-rest.next + 1)).next) is_m in
     let left = more ∙ ap (λ j. (item_at l m (c.loop-rest.next + 1)).value ∷ items l (c.loop-rest.rest - 1) j) (sym next) in
-    let q = c.push-in-loop-rest in
-    let p = pushed (entries c.loop-rest.items) _ f.result.item q.result (room c.loop-rest.items) q.ensures.value (omega (arith, ap length left, i.1)) q.ensures.held in
-    let k = ap length p ∙ length_push (entries c.loop-rest.items) f.result.item in (
-      turn tables.item_of _ _ (entries c.push.new.self) (entries c.loop-rest.items) _ f.result.item (R (item_at l m (c.loop-rest.next + 1)).value) _ i.0 (ap (map R) left) (f.ensures.item ∙ ap (λ b. R (item_at l b (c.loop-rest.next + 1)).value) is_m) p,
-      omega (arith, ap length left, i.1, q.ensures.room),
-      q.ensures.room ∙ i.2,
+    let q = c.push_item-in-loop-rest in
+    let g = item_taken (columns_of c.loop-rest.tables) (columns_of q.new.self) f.result.item q.result q.ensures.value (omega (arith, ap length left, i.1)) q.ensures.held in
+    let p = ap (λ (c : Columns). c.items.entries) g in
+    let k = ap length p ∙ length_push (columns_of c.loop-rest.tables).items.entries f.result.item in (
+      turn lists.item_of _ _ (columns_of c.push_item.new.self).items.entries (columns_of c.loop-rest.tables).items.entries _ f.result.item (R (item_at l m (c.loop-rest.next + 1)).value) _ i.0 (ap (map R) left) (f.ensures.item ∙ ap (λ b. R (item_at l b (c.loop-rest.next + 1)).value) is_m) p,
+      omega (arith, ap length left, i.1, ap (λ (c : Columns). c.items.room) g),
+      items_then i.2 (item_alone (columns_of c.loop-rest.tables) (columns_of q.new.self) f.result.item g),
       i.3 ∙ end_more l sumSign one c.loop-rest.rest c.loop-rest.next c.loop-rest-test.true (sym c.if-is_sign.ensures) ∙ ap (itemsEnd l (c.loop-rest.rest - 1)) (sym next),
       omega (arith, f.ensures.near, w.few),
     )
@@ -66,12 +68,13 @@ returns-else-is_sign c =
     let R = item_of w.text.now (scope_of w c.args.names.now []) in
     let s = ap length (side-list l n c.args.at) in
     let e = ap (λ i. length (items l n i)) f.ensures.next in
-    let p = pushed (entries c.args.items.now) _ f.result.item c.push.result (room c.args.items.now) c.push.ensures.value (omega (arith, c.requires.room)) c.push.ensures.held in
+    let g = item_taken (columns_of c.args.tables.now) (columns_of c.push_item.new.self) f.result.item c.push_item.result c.push_item.ensures.value (omega (arith, c.requires.room)) c.push_item.ensures.held in
+    let p = ap (λ (c : Columns). c.items.entries) g in
     let one = λ (t : Token) (j : ℕ). item_at l (is_a Minus t) j in record {
-      added = onto tables.item_of (R (item_at l false c.args.at).value) _ _ (entries c.args.items.now) _ _ f.result.item f.ensures.item p
-          (whole tables.item_of _ _ _ _ i.0 (ap (map R) (rest-none l sumSign one c.loop-rest.rest c.loop-rest.next (sym c.if-is_sign.ensures))))
+      added = onto lists.item_of (R (item_at l false c.args.at).value) _ _ (columns_of c.args.tables.now).items.entries _ _ f.result.item f.ensures.item p
+          (whole lists.item_of _ _ _ _ i.0 (ap (map R) (rest-none l sumSign one c.loop-rest.rest c.loop-rest.next (sym c.if-is_sign.ensures))))
           (ap (map R) (side-list l n c.args.at ∙ ap (λ j. (item_at l false c.args.at).value ∷ items l n j) (sym f.ensures.next)));
-      room = i.2 ∙ c.push.ensures.room;
+      others = items_then (item_alone (columns_of c.args.tables.now) (columns_of c.push_item.new.self) f.result.item g) i.2;
       next = sym (side-end l n c.args.at ∙ ap (itemsEnd l n) (sym f.ensures.next) ∙ i.3 ∙ end_none l sumSign one c.loop-rest.rest c.loop-rest.next (sym c.if-is_sign.ensures));
       near = i.4;
     }
@@ -82,12 +85,13 @@ returns-after-loop-rest c =
     let R = item_of w.text.now (scope_of w c.args.names.now []) in
     let s = ap length (side-list l n c.args.at) in
     let e = ap (λ i. length (items l n i)) f.ensures.next in
-    let p = pushed (entries c.args.items.now) _ f.result.item c.push.result (room c.args.items.now) c.push.ensures.value (omega (arith, c.requires.room)) c.push.ensures.held in
+    let g = item_taken (columns_of c.args.tables.now) (columns_of c.push_item.new.self) f.result.item c.push_item.result c.push_item.ensures.value (omega (arith, c.requires.room)) c.push_item.ensures.held in
+    let p = ap (λ (c : Columns). c.items.entries) g in
     let one = λ (t : Token) (j : ℕ). item_at l (is_a Minus t) j in record {
-      added = onto tables.item_of (R (item_at l false c.args.at).value) _ _ (entries c.args.items.now) _ _ f.result.item f.ensures.item p
-          (whole tables.item_of _ _ _ _ i.0 (ap (map R) (rest_out l sumSign one c.loop-rest.rest c.loop-rest.next (omega arith))))
+      added = onto lists.item_of (R (item_at l false c.args.at).value) _ _ (columns_of c.args.tables.now).items.entries _ _ f.result.item f.ensures.item p
+          (whole lists.item_of _ _ _ _ i.0 (ap (map R) (rest_out l sumSign one c.loop-rest.rest c.loop-rest.next (omega arith))))
           (ap (map R) (side-list l n c.args.at ∙ ap (λ j. (item_at l false c.args.at).value ∷ items l n j) (sym f.ensures.next)));
-      room = i.2 ∙ c.push.ensures.room;
+      others = items_then (item_alone (columns_of c.args.tables.now) (columns_of c.push_item.new.self) f.result.item g) i.2;
       next = sym (side-end l n c.args.at ∙ ap (itemsEnd l n) (sym f.ensures.next) ∙ i.3 ∙ end-out l sumSign one c.loop-rest.rest c.loop-rest.next (omega arith));
       near = i.4;
     }

@@ -1,4 +1,4 @@
-use Rattle.std.proofs.Common.{◌≡◌, sym, ap, ◌∙◌}
+use Rattle.std.proofs.Common.{sym, ap, ◌∙◌}
 use Rattle.naming.specs.Reaches.{tokensOf}
 use Rattle.naming.specs.Scopes.{slotIn}
 use Rattle.naming.specs.Sources.{source_of}

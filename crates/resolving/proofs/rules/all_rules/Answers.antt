@@ -1,29 +1,25 @@
-use Rattle.std.proofs.Common.{◌≡◌, ℕ, ◌+◌, ◌≤◌, [], ◌∷◌, ◌++◌, map, length, sym, refl, ap, ◌∙◌, arith}
-use Rattle.std.proofs.lemmas.List.{length_push}
+use Rattle.std.proofs.Common.{◌≡◌, ◌+◌, [], ◌∷◌, ◌++◌, length, sym, refl, ap, ◌∙◌, subst, arith}
 use Rattle.std.proofs.lemmas.List.Sums.{sum_by_push}
-use Rattle.grammar.specs.Raw as Raw
-use Rattle.grammar.specs.Trees.{look_of, rulesTo}
+use Rattle.grammar.specs.Trees.{rulesTo}
 use Rattle.syntax.specs.Weights.{ruleWeight, weightOf}
-use Rattle.pile.specs.Entries.{entries, room}
+use Rattle.pile.specs.Entries.{room}
 use Rattle.naming.specs.Reaches.{sheetOf}
 use Rattle.naming.specs.Sources.{source_of}
 use Rattle.naming.proofs.Grown.{rule-here, rule-not}
-use Rattle.resolving.specs.Growing.{piles}
-use Rattle.resolving.specs.Ruling.{ruleBy, RulesMade}
-use Rattle.resolving.proofs.Adding.{pushed}
-use Rattle.resolving.proofs.Ruling.{rules-none, rules-turn, rules-in, rules-zero, rules-next, rules-same, weight-front}
+use Rattle.records.specs.declared.entry.Entry.{Entry}
+use Rattle.records.specs.Columns.{Column}
+use Rattle.records.specs.Laying.{columns_of}
+use Rattle.resolving.specs.Ruling.{SameRooms}
+use Rattle.resolving.specs.Ruling.{ruleBy}
+use Rattle.resolving.proofs.Ruling.{rooms_none, rooms_turn, entry_taken, rules-none, rules-turn, rules-in, rules-zero, rules-next, rules-same, weight-front}
 use Rattle.resolving.proofs.rules.all_rules.Goals as goal
 use Rattle.resolving.proofs.rules.all_rules.Goals.{in-Some, in_default}
 
 pub loop-at-init : goal.loop-at-init
 loop-at-init c =
     let w = c.args.sheet in (
-      rules-in (sheetOf w) [] _ _ _ _ _ _ _ _ _ _ _ (rules-none (sheetOf w) (piles c.args.nodes.now c.args.conditions.now c.args.items.now) c.args.params.now c.args.table.now c.requires.empty) (rules-zero (source_of w) w.nodes.now) refl refl refl refl refl,
-      refl,
-      refl,
-      refl,
-      refl,
-      refl,
+      rules-in (sheetOf w) [] _ _ _ (rules-none (sheetOf w) (columns_of c.args.tables.now) c.requires.empty) (rules-zero (source_of w) w.nodes.now) refl,
+      rooms_none,
       refl,
       refl,
     )
@@ -34,18 +30,18 @@ rule-entry-requires c =
     let here : rulesTo s (at + 1) ns ≡ rulesTo s at ns ++ ruleBy w at k ∷ [] = rules-next s ns at ∙ ap (λ xs. rulesTo s at ns ++ xs) (rule-here s ns at k c.in-Some.ensures) in
     let h = ap weightOf here ∙ sum_by_push ruleWeight (rulesTo s at ns) (ruleBy w at k) in
     let f = weight-front s ns (at + 1) (length ns) (omega (arith, c.loop-at-test.true)) in
-    let m = i.0 in let a = c.requires.ample in record {
+    let m = i.0 in let a = c.requires.ample in let r = i.1 in record {
       fit = c.requires.fit;
       rules = c.requires.rules;
       top = omega (arith, w.few, c.loop-at-test.true);
-      names = omega (arith, c.requires.names, i.6);
-      lists = omega (arith, c.requires.lists, i.7);
+      names = omega (arith, c.requires.names, i.2);
+      lists = omega (arith, c.requires.lists, i.3);
       roomy = record {
-        nodes = omega (arith, m.nodes, a.nodes, i.1);
-        conditions = omega (arith, m.conditions, a.conditions, i.2);
-        items = omega (arith, m.items, a.items, i.3);
+        nodes = omega (arith, m.nodes, a.nodes, r.nodes);
+        conditions = omega (arith, m.conditions, a.conditions, r.conditions);
+        items = omega (arith, m.items, a.items, r.items);
       };
-      params = omega (arith, m.params, a.params, i.4);
+      params = omega (arith, m.params, a.params, r.params);
     }
 
 pub loop-at-preserved : goal.loop-at-preserved
@@ -53,35 +49,33 @@ loop-at-preserved c =
     let w = c.args.sheet in let s = source_of w in let ns = w.nodes.now in let at = c.loop-at.at in let i = c.loop-at.invariant in
     elim c.match-rule.branch [
       | in-Some v ↦
-          let k = v.in-Some.ruled in let q = v.push in let r = v.rule-entry in
+          let k = v.in-Some.ruled in let q = v.push_entry in let r = v.rule-entry in
           let here : rulesTo s (at + 1) ns ≡ rulesTo s at ns ++ ruleBy w at k ∷ [] = rules-next s ns at ∙ ap (λ xs. rulesTo s at ns ++ xs) (rule-here s ns at k v.in-Some.ensures) in
           let h = ap weightOf here ∙ sum_by_push ruleWeight (rulesTo s at ns) (ruleBy w at k) in
           let f = weight-front s ns (at + 1) (length ns) (omega (arith, c.loop-at-test.true)) in
-          let p = pushed (entries c.loop-at.table) _ r.result q.result (room c.loop-at.table) q.ensures.value (omega (arith, i.0.rules, c.requires.ample.rules, i.5)) q.ensures.held in (
-            rules-in (sheetOf w) _ _ _ _ _ _ _ _ _ _ _ _
-                (rules-turn (sheetOf w) (rulesTo s at ns) (ruleBy w at k) r.result (piles c.loop-at.nodes c.loop-at.conditions c.loop-at.items) (piles r.new.nodes r.new.conditions r.new.items) c.loop-at.params r.new.params c.loop-at.table q.new.self i.0 r.ensures.made p)
-                here v.nodes-is v.conditions-is v.items-is v.params-is v.table-is,
-            ap room v.nodes-is ∙ r.ensures.made.made.rooms.0 ∙ i.1,
-            ap room v.conditions-is ∙ r.ensures.made.made.rooms.1 ∙ i.2,
-            ap room v.items-is ∙ r.ensures.made.made.rooms.2 ∙ i.3,
-            ap room v.params-is ∙ r.ensures.made.roomy ∙ i.4,
-            ap room v.table-is ∙ q.ensures.room ∙ i.5,
-            ap room v.names-is ∙ r.ensures.room.0 ∙ i.6,
-            ap room v.lists-is ∙ r.ensures.room.1 ∙ i.7,
+          let m = r.ensures.made in
+          let same = m.made.others.1 in
+          let p = entry_taken (columns_of r.new.tables) (columns_of q.new.self) r.result q.result q.ensures.value
+          (omega (arith, i.0.rules, c.requires.ample.rules, i.1.entries, ap (λ (c : Column Entry). length c.entries) same, ap (λ (c : Column Entry). c.room) same)) q.ensures.held in
+          let z = ap columns_of v.tables-is ∙ p in (
+            rules-in (sheetOf w) _ _ _ _
+                (rules-turn (sheetOf w) (rulesTo s at ns) (ruleBy w at k) r.result (columns_of c.loop-at.tables) (columns_of r.new.tables) i.0 m)
+                here z,
+            subst (SameRooms (columns_of c.args.tables.now)) (sym z) (rooms_turn (sheetOf w) (ruleBy w at k) r.result (columns_of c.args.tables.now) (columns_of c.loop-at.tables) (columns_of r.new.tables) i.1 m),
+            ap room v.names-is ∙ r.ensures.room.0 ∙ i.2,
+            ap room v.lists-is ∙ r.ensures.room.1 ∙ i.3,
           )
       | in_default v ↦ (
-        rules-in (sheetOf w) _ _ _ _ _ _ _ _ _ _ _ _ i.0 (rules-same s ns at (rule-not s ns at v.in_default.ensures)) v.nodes-is v.conditions-is v.items-is v.params-is v.table-is,
-        ap room v.nodes-is ∙ i.1,
-        ap room v.conditions-is ∙ i.2,
-        ap room v.items-is ∙ i.3,
-        ap room v.params-is ∙ i.4,
-        ap room v.table-is ∙ i.5,
-        ap room v.names-is ∙ i.6,
-        ap room v.lists-is ∙ i.7,
+        rules-in (sheetOf w) _ _ _ _ i.0 (rules-same s ns at (rule-not s ns at v.in_default.ensures)) (ap columns_of v.tables-is),
+        subst (SameRooms (columns_of c.args.tables.now)) (sym (ap columns_of v.tables-is)) i.1,
+        ap room v.names-is ∙ i.2,
+        ap room v.lists-is ∙ i.3,
       )
     ]
 
 pub returns : goal.returns
 returns c =
-    let w = c.args.sheet in let s = source_of w in let ns = w.nodes.now in
-    rules-in (sheetOf w) _ _ _ _ _ _ _ _ _ _ _ _ c.loop-at.invariant.0 (ap (λ n. rulesTo s n ns) (let e : length ns ≡ c.loop-at.at = omega (arith, c.loop-at-test.false, c.loop-at.auto.at-end) in e)) refl refl refl refl refl
+    let w = c.args.sheet in let s = source_of w in let ns = w.nodes.now in record {
+      made = rules-in (sheetOf w) _ _ _ _ c.loop-at.invariant.0 (ap (λ n. rulesTo s n ns) (let e : length ns ≡ c.loop-at.at = omega (arith, c.loop-at-test.false, c.loop-at.auto.at-end) in e)) refl;
+      rooms = c.loop-at.invariant.1;
+    }

@@ -1,0 +1,7 @@
+use Rattle.std.proofs.Common.{refl}
+use Rattle.records.specs.Columns.{first_slots}
+use Rattle.records.proofs.laid.Laid.over.Goals as goal
+
+pub returns-clause-columns : goal.returns-clause-columns
+unfolding first_slots
+returns-clause-columns c = refl

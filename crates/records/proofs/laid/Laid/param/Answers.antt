@@ -1,0 +1,10 @@
+use Rattle.std.proofs.Common.{sym, arith}
+use Rattle.records.specs.declared.entry.Param.TheVariants.{Number}
+use Rattle.records.proofs.Slots.{slots_get, slots-past}
+use Rattle.records.proofs.laid.Laid.param.Goals as goal
+
+pub returns-then-at-self : goal.returns-then-at-self
+returns-then-at-self c = sym (slots_get (λ r. r.params) Number c.args.self.now.records.now c.args.self.now.params c.args.at _ _ c.if-at-self.true (let w = c.args.self.now.params_within in omega (arith, c.if-at-self.true)) c.at.ensures)
+
+pub returns-else-at-self : goal.returns-else-at-self
+returns-else-at-self c = sym (slots-past (λ r. r.params) Number c.args.self.now.records.now c.args.self.now.params c.args.at c.if-at-self.false)

@@ -1,0 +1,21 @@
+ghost use Rattle.std.specs.Prelude.{◌*◌, ◌≤◌, length};
+
+use crate::record::Record;
+
+mod methods;
+
+// The tables of a sheet, laid into records: each table has so many entries, four to a record, in the order in which they were pushed.
+#[derive(Drop)]
+pub struct Laid<'r> {
+    records: &'r mut [Record],
+    nodes: usize,
+    conditions: usize,
+    items: usize,
+    params: usize,
+    entries: usize,
+    ghost nodes_within: { nodes ≤ 4 * length records.now },
+    ghost conditions_within: { conditions ≤ 4 * length records.now },
+    ghost items_within: { items ≤ 4 * length records.now },
+    ghost params_within: { params ≤ 4 * length records.now },
+    ghost entries_within: { entries ≤ 4 * length records.now },
+}

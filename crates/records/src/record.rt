@@ -1,0 +1,56 @@
+ghost use Rattle.std.specs.Prelude.{◌≡◌, length, replicate};
+ghost use Rattle.records.specs.Columns.{zero_record};
+
+use crate::condition::{Atom, Condition, Item};
+use crate::entry::{Entry, Param, Stretch};
+use crate::four::Four;
+use crate::node::Node;
+use language::Comparison;
+
+// A part of each table of a sheet: four slots of each. The tables of every sheet that is read lie in 4,096 records.
+#[derive(Clone, Copy)]
+pub struct Record {
+    pub nodes: Four<Node>,
+    pub conditions: Four<Condition>,
+    pub items: Four<Item>,
+    pub params: Four<Param>,
+    pub entries: Four<Entry>,
+}
+
+impl Record {
+    // A record in which nothing lies.
+    pub fn zero() -> Record
+        ensures { result ≡ zero_record }
+    {
+        let none = Stretch { from: 0, to: 0 };
+        Record {
+            nodes: Four::of(Node::Blank),
+            conditions: Four::of(Condition {
+                place: 0,
+                comparison: Comparison::Less,
+                from: 0,
+                middle: 0,
+                to: 0,
+            }),
+            items: Four::of(Item {
+                factor: 0,
+                atom: Atom::One,
+            }),
+            params: Four::of(Param::Number),
+            entries: Four::of(Entry {
+                place: 0,
+                params: none,
+                needs: none,
+                gives: none,
+                body: 0,
+            }),
+        }
+    }
+}
+
+// Nothing lies in the records any more.
+pub fn clear(records: &mut [Record])
+    ensures { records.new ≡ replicate (length records.old) zero_record }
+{
+    records.fill(Record::zero());
+}

@@ -1,0 +1,2 @@
+pub mod Knowings
+pub mod Siding

@@ -1,0 +1,90 @@
+-- A side added up item by item.
+use Rattle.std.proofs.Common.{◌≡◌, ℕ, suc, ◌+◌, ◌-◌, ◌<◌, ◌≤◌, ℤ, pos, Bool, true, false, cond, List, [], ◌∷◌, map, length, take, drop, get_or, Some, None, Option, sym, refl, ap, ◌∙◌, subst, ap₂, inl, inr, arith}
+use Rattle.std.proofs.Math.Seq.{drop-cons}
+use Rattle.std.proofs.lemmas.Bool.{and_from, lt-ltb, cases_lt}
+use Rattle.std.proofs.lemmas.List.{get_or_past}
+use Rattle.std.proofs.lemmas.Option.{slice_get_within, get_or_from_slice_get, slice_get-get_or}
+use Rattle.std.proofs.ByRecursion.{All-get_or}
+use Rattle.std.specs.List.{slice_get}
+use Rattle.language.specs.declared.term.Term.{Term}
+use Rattle.language.specs.Terms.{constant, each, zeroTerm, plus, scaled, fitsTerm, allNear, near}
+use Rattle.language.specs.Tree as Tree
+use Rattle.language.specs.Comparing.{atomTerm}
+use Rattle.records.specs.declared.condition.Item.{Item}
+use Rattle.records.specs.Tables.{stretch, item_of, side_in}
+use Rattle.terms.specs.declared.total.Total.{Total}
+use Rattle.terms.specs.Totals.{sum_of, sideFrom, takes, seen, taken}
+use Rattle.walking.specs.Sides.{Fitting, Takable}
+
+module _ (items : List Item) where
+  cut : (from to : ℕ) (x : Item) → from < to → slice_get items from ≡ Some x → stretch items from to ≡ x ∷ stretch items (from + 1) to
+  cut from to x h e =
+      let l = slice_get_within items from x e in
+      ap₂ (λ n xs. take n xs) (let z : to - from ≡ suc (to - (from + 1)) = omega arith in z) (drop-cons items from x l ∙ ap₂ (λ y n. y ∷ drop n items) (get_or_from_slice_get items from x x e) (let z : suc from ≡ from + 1 = omega arith in z))
+
+  -- the first item, and then the others
+  pub side-step : (from to : ℕ) (x : Item) → from < to → slice_get items from ≡ Some x → side_in items from to ≡ item_of x ∷ side_in items (from + 1) to
+  unfolding side_in
+  side-step from to x h e = ap (map item_of) (cut from to x h e)
+
+  pub no-item : (at : ℕ) → at < length items → slice_get items at ≡ None → ⊥
+  no-item at h e = elim items as (λ (is : List Item). at < length is → slice_get is at ≡ None → ⊥) [
+    | [] ↦ λ h e. omega arith
+    | x ∷ xs ↦ λ h e. let z : Some (get_or (x ∷ xs) at x) ≡ None = sym (slice_get-get_or (x ∷ xs) at x h) ∙ e in grind arith
+  ] h e
+
+  pub side-none : (from to : ℕ) → to ≤ from → side_in items from to ≡ []
+  unfolding side_in
+  side-none from to h = ap (λ n. map item_of (take n (drop from items))) (let z : to - from ≡ 0 = omega arith in z)
+
+  pub item-near : (at : ℕ) (x : Item) → Takable items → slice_get items at ≡ Some x → near x.factor ≡ true
+  item-near at x t e = subst (λ (i : Item). near i.factor ≡ true) (get_or_from_slice_get items at x x e) (All-get_or (λ (i : Item). near i.factor ≡ true) items at x (slice_get_within items at x e) t.near)
+
+module _ (ts : List Term) (r : Term) where
+  fits-constant : (b : Bool) → fitsTerm (constant (pos (cond b 1 0))) ≡ true
+  unfolding constant each allNear
+  fits-constant true = refl
+  fits-constant false = refl
+
+  -- what an item takes keeps the limits
+  pub atom-fits : Fitting ts → fitsTerm r ≡ true → (a : Tree.Atom) → fitsTerm (atomTerm ts r a) ≡ true
+  atom-fits f h Tree.one = fits-constant true
+  atom-fits f h (Tree.named i) = elim (cases_lt i (length ts)) [
+    | inl l ↦ All-get_or (λ t. fitsTerm t ≡ true) ts i zeroTerm l f
+    | inr l ↦ ap fitsTerm (get_or_past ts i zeroTerm l) ∙ fits-constant false
+  ]
+  atom-fits f h Tree.result = h
+
+  pub from-item : (t : Term) (i : Tree.Item) (is : Tree.Side) → sideFrom ts r t (i ∷ is) ≡ sideFrom ts r (plus (scaled i.factor (atomTerm ts r i.atom)) t) is
+  unfolding sideFrom
+  from-item t i is = refl
+
+  pub from-none : (t : Term) → sideFrom ts r t [] ≡ t
+  unfolding sideFrom
+  from-none t = refl
+
+counted : Option (ℕ × Term) → ℕ
+counted None = 0
+counted (Some p) = p.0
+
+summed : Option (ℕ × Term) → Term
+summed None = zeroTerm
+summed (Some p) = p.1
+
+module _ (t : Total) (factor : ℤ) (u : Term) (few : t.count < 16384) (fine : near factor ≡ true) (fits : fitsTerm u ≡ true) where
+  takes-it : takes t.count factor u ≡ true
+  takes-it = and_from _ _ (lt-ltb t.count 16384 few) (and_from _ _ fine fits)
+
+  comes : taken t factor u ≡ Some (t.count + 1, plus (scaled factor u) (sum_of t))
+  comes = ap (λ b. cond b (Some (t.count + 1, plus (scaled factor u) (sum_of t))) None) takes-it
+
+  pub one-counted : (more : Total) → seen (Some more) ≡ taken t factor u → more.count ≡ t.count + 1
+  unfolding counted
+  one-counted more e = ap counted (e ∙ comes)
+
+  pub one-summed : (more : Total) → seen (Some more) ≡ taken t factor u → sum_of more ≡ plus (scaled factor u) (sum_of t)
+  unfolding summed
+  one-summed more e = ap summed (e ∙ comes)
+
+  pub not-full : seen None ≡ taken t factor u → ⊥
+  not-full e = let z : None ≡ Some (t.count + 1, plus (scaled factor u) (sum_of t)) = e ∙ comes in grind arith

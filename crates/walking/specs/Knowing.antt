@@ -1,0 +1,19 @@
+-- What the walk's small steps answer: a fault that the walk notes, or how it goes on.
+use Rattle.std.specs.Prelude.{◌≡◌, ℕ, suc, List, ◌++◌, Some, None, Ok, Err, Result, nat_lt}
+use Rattle.rows.specs.declared.row.Row.{Row}
+use Rattle.language.specs.declared.refusal.Refusal.{Refusal}
+use Rattle.language.specs.declared.refusal.Refusal.TheVariants.{Full}
+use Rattle.language.specs.declared.term.Term.{Term}
+use Rattle.language.specs.Limits.{quantities}
+use Rattle.language.specs.Terms.{quantity}
+use Rattle.language.specs.Walking.{Known, limit, firstFault}
+
+-- rows were taken as facts; or the first fault on the way refuses, and the facts begin as before
+abbrev pub Took : Result (Unit {0}) Refusal → Known → List Row → List Row → Type 0
+Took (Ok u) k before after = (firstFault k.notes ≡ None) × (after ≡ k.facts)
+Took (Err r) k before after = (firstFault k.notes ≡ Some r) × ((more : List Row) × (after ≡ before ++ more))
+
+-- the next quantity was taken; or there is none
+abbrev pub Fresh : Result Term Refusal → ℕ → ℕ → ℕ → Type 0
+Fresh (Ok t) place before after = (t ≡ quantity before) × (after ≡ suc before) × (firstFault (limit (nat_lt before quantities) (Full place)) ≡ None)
+Fresh (Err r) place before after = firstFault (limit (nat_lt before quantities) (Full place)) ≡ Some r

@@ -1,0 +1,24 @@
+-- What adding up a side asks of the terms and items at hand.
+use Rattle.std.specs.Prelude.{◌≡◌, ℕ, ◌≤◌, true, List, length, Some}
+use Rattle.std.specs.List.{AllByRecursion, slice_get}
+use Rattle.language.specs.declared.term.Term.{Term}
+use Rattle.language.specs.Terms.{fitsTerm, near}
+use Rattle.language.specs.Comparing.{conditionRows}
+use Rattle.records.specs.declared.condition.Item.{Item}
+use Rattle.records.specs.declared.condition.Condition.{Condition}
+use Rattle.records.specs.Tables.{conditionIn}
+use Rattle.terms.specs.declared.rowlist.Rows.{Rows}
+use Rattle.terms.specs.Listed.{list_of}
+
+-- terms within their limits
+abbrev pub Fitting : List Term → Type 0
+Fitting ts = AllByRecursion (λ t. fitsTerm t ≡ true) ts
+
+-- no more items than a total takes, each with a factor within the limit of terms
+pub record Takable (items : List Item) : Type 0 where
+  pub few : length items ≤ 16384
+  pub near : AllByRecursion (λ (i : Item). near i.factor ≡ true) items
+
+-- the rows are those of the condition at a position, if there is one
+abbrev pub RowsAt : Rows → List Term → Term → List Item → List Condition → ℕ → Type 0
+RowsAt rows ts r items conditions at = (c : Condition) → slice_get conditions at ≡ Some c → list_of rows ≡ conditionRows ts r (conditionIn items c)
