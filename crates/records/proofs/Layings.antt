@@ -18,7 +18,7 @@ use Rattle.records.proofs.Rules.{rules-on}
 use Rattle.records.proofs.Slots.{slots_more}
 
 -- columns with these entries, in so many records
-abbrev laid : List Node → List Condition → List Item → List Param → List Entry → ℕ → ℕ → Columns
+abbrev pub laid : List Node → List Condition → List Item → List Param → List Entry → ℕ → ℕ → Columns
 laid n d i p e records lender = record {
   nodes = record { entries = n; room = 4 * records };
   conditions = record { entries = d; room = 4 * records };

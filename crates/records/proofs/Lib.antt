@@ -4,3 +4,4 @@ pub mod Standing
 pub mod Rules
 pub mod Slots
 pub mod Layings
+pub mod Putting

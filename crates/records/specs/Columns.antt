@@ -1,5 +1,5 @@
 -- The tables of a sheet as they lie in records: each is a column, whose entries lie four to a record.
-use Rattle.std.specs.Prelude.{ℕ, zero, suc, ◌*◌, ◌/◌, ◌%◌, List, [], ◌∷◌, ◌++◌, length, pos, slice_index_or}
+use Rattle.std.specs.Prelude.{ℕ, zero, suc, ◌*◌, ◌/◌, ◌%◌, List, [], ◌∷◌, ◌++◌, length, pos, None, slice_index_or}
 use Rattle.records.specs.declared.node.Node.{Node}
 use Rattle.records.specs.declared.node.Node.TheVariants.{Blank}
 use Rattle.records.specs.declared.condition.Atom.TheVariants.{One}
@@ -36,6 +36,8 @@ zero_record = record {
   items = four no_item;
   params = four Number;
   entries = four no_entry;
+  owed = None;
+  row = None;
 }
 
 -- the slot with this number of a column, four to a record

@@ -6,3 +6,5 @@ pub mod Rules
 pub mod Fours
 pub mod Columns
 pub mod Laying
+pub mod Owing
+pub mod Added

@@ -7,7 +7,6 @@ use Rattle.records.specs.declared.node.Node.{Node}
 use Rattle.records.specs.declared.node.Node.TheVariants.{Blank, Num, Name, Calc, Read, Call, Bind, Test, Put, Claim, End, Value, Lent}
 use Rattle.records.specs.declared.entry.Param.{Param}
 use Rattle.records.specs.declared.entry.Entry.{Entry}
-use Rattle.records.specs.declared.sheet.Sheet.{Sheet}
 use Rattle.records.specs.Tables.{Tables, stretch, conditionsIn, paramOf}
 
 -- what a node is read as: an expression, or arguments
@@ -92,10 +91,3 @@ ruleIn t params e = record {
 
 abbrev pub rulesIn : Tables → List Param → List Entry → List Rule
 rulesIn t params entries = map (ruleIn t params) entries
-
--- a sheet that lies in tables
-abbrev pub tables_of : Sheet → Tables
-tables_of s = record { nodes = s.nodes.now; conditions = s.conditions.now; items = s.items.now }
-
-abbrev pub rulesOf : Sheet → List Rule
-rulesOf s = rulesIn (tables_of s) s.params.now s.entries.now

@@ -6,15 +6,13 @@ pub mod entry;
 pub mod four;
 pub mod laid;
 pub mod node;
-mod reading;
+pub mod owed;
 pub mod record;
-pub mod sheet;
 
 pub use condition::{Atom, Condition, Item};
 pub use entry::{Entry, Param, Stretch};
 pub use four::Four;
 pub use laid::Laid;
 pub use node::Node;
-pub use reading::{node_in, stretch_of};
+pub use owed::Owed;
 pub use record::{Record, clear};
-pub use sheet::Sheet;

@@ -5,9 +5,11 @@ use crate::condition::{Atom, Condition, Item};
 use crate::entry::{Entry, Param, Stretch};
 use crate::four::Four;
 use crate::node::Node;
+use crate::owed::Owed;
 use language::Comparison;
+use rows::Row;
 
-// A part of each table of a sheet: four slots of each. The tables of every sheet that is read lie in 4,096 records.
+// A part of each table of a sheet: four slots of each. The tables of every sheet that is read lie in 4,096 records. Beside them a record has room for an obligation, and for a row of some obligation's question.
 #[derive(Clone, Copy)]
 pub struct Record {
     pub nodes: Four<Node>,
@@ -15,6 +17,8 @@ pub struct Record {
     pub items: Four<Item>,
     pub params: Four<Param>,
     pub entries: Four<Entry>,
+    pub owed: Option<Owed>,
+    pub row: Option<Row>,
 }
 
 impl Record {
@@ -44,6 +48,8 @@ impl Record {
                 gives: none,
                 body: 0,
             }),
+            owed: None,
+            row: None,
         }
     }
 }

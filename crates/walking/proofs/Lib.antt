@@ -1,2 +1,5 @@
 pub mod Knowings
 pub mod Siding
+pub mod Owings
+pub mod Going
+pub mod Taking

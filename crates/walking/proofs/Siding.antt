@@ -16,16 +16,17 @@ use Rattle.terms.specs.declared.total.Total.{Total}
 use Rattle.terms.specs.Totals.{sum_of, sideFrom, takes, seen, taken}
 use Rattle.walking.specs.Sides.{Fitting, Takable}
 
-module _ (items : List Item) where
-  cut : (from to : ℕ) (x : Item) → from < to → slice_get items from ≡ Some x → stretch items from to ≡ x ∷ stretch items (from + 1) to
-  cut from to x h e =
-      let l = slice_get_within items from x e in
-      ap₂ (λ n xs. take n xs) (let z : to - from ≡ suc (to - (from + 1)) = omega arith in z) (drop-cons items from x l ∙ ap₂ (λ y n. y ∷ drop n items) (get_or_from_slice_get items from x x e) (let z : suc from ≡ from + 1 = omega arith in z))
+-- a stretch is its first entry, and then the others
+pub cut : {X : Type 0} (xs : List X) (from to : ℕ) (x : X) → from < to → slice_get xs from ≡ Some x → stretch xs from to ≡ x ∷ stretch xs (from + 1) to
+cut xs from to x h e =
+    let l = slice_get_within xs from x e in
+    ap₂ take (let z : to - from ≡ suc (to - (from + 1)) = omega arith in z) (drop-cons xs from x l ∙ ap₂ (λ y n. y ∷ drop n xs) (get_or_from_slice_get xs from x x e) (let z : suc from ≡ from + 1 = omega arith in z))
 
+module _ (items : List Item) where
   -- the first item, and then the others
   pub side-step : (from to : ℕ) (x : Item) → from < to → slice_get items from ≡ Some x → side_in items from to ≡ item_of x ∷ side_in items (from + 1) to
   unfolding side_in
-  side-step from to x h e = ap (map item_of) (cut from to x h e)
+  side-step from to x h e = ap (map item_of) (cut items from to x h e)
 
   pub no-item : (at : ℕ) → at < length items → slice_get items at ≡ None → ⊥
   no-item at h e = elim items as (λ (is : List Item). at < length is → slice_get is at ≡ None → ⊥) [

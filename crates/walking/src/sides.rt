@@ -1,12 +1,10 @@
 ghost use Rattle.std.specs.Prelude.{◌≡◌, ◌≤◌, true, length};
-ghost use Rattle.std.specs.List.{AllByRecursion};
 ghost use Rattle.language.specs.Comparing.{atomTerm, sideTerm};
 ghost use Rattle.language.specs.Terms.{fitsTerm};
 ghost use Rattle.records.specs.Laying.{columns_of};
-ghost use Rattle.records.specs.Standing.{SidesIn};
 ghost use Rattle.records.specs.Tables.{atomOf, side_in};
 ghost use Rattle.terms.specs.Totals.{sum_of};
-ghost use Rattle.walking.specs.Sides.{Fitting, Takable, RowsAt};
+ghost use Rattle.walking.specs.Sides.{Fitting, Takable, Sound, RowsAt};
 
 use language::Term;
 use records::{Atom, Laid};
@@ -53,8 +51,7 @@ fn side_total(tables: &Laid<'_>, names: &[Term], outcome: &Term, from: usize, to
 pub fn condition_rows_at(tables: &Laid<'_>, names: &[Term], outcome: &Term, at: usize) -> Rows
     requires names { Fitting names.now }
     requires outcome { fitsTerm outcome.now ≡ true }
-    requires items { Takable (columns_of tables.now).items.entries }
-    requires sides { AllByRecursion (SidesIn (length (columns_of tables.now).items.entries)) (columns_of tables.now).conditions.entries }
+    requires sound { Sound (columns_of tables.now) }
     ensures { RowsAt result names.now outcome.now (columns_of tables.now).items.entries (columns_of tables.now).conditions.entries at }
 {
     let Some(condition) = tables.condition(at) else {

@@ -22,6 +22,7 @@ impl<'r> Laid<'r> {
             items: 0,
             params: 0,
             entries: 0,
+            owed: 0,
         }
     }
 

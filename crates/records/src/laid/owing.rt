@@ -1,0 +1,71 @@
+ghost use Rattle.std.specs.Prelude.{◌≡◌, ◌+◌, ◌*◌, ◌<◌, ◌≤◌, length};
+ghost use Rattle.records.specs.Added.{RowPut, RowsPut, HeaderPut, PutIf};
+ghost use Rattle.records.specs.Owing.{takes_one};
+
+use super::Laid;
+use crate::owed::Owed;
+use language::Duty;
+use rows::{MOST_FACTS, Row};
+
+// So many records hold the rows of an obligation: its facts, and its goal as the last.
+const ROWS_EACH: usize = 25;
+
+impl<'r> Laid<'r> {
+    // How many obligations there are.
+    pub fn owed(&self) -> usize
+        ensures { result ≡ self.now.owed }
+    {
+        self.owed
+    }
+
+    fn put_row(&mut self, at: usize, row: Row)
+        requires { at < length self.old.records.now }
+        ensures { RowPut self.old self.new at row }
+    {
+        let mut record = self.records[at];
+        record.row = Some(row);
+        self.records[at] = record;
+    }
+
+    fn put_rows(&mut self, base: usize, rows: &[Row])
+        requires { base + length rows.now ≤ length self.old.records.now }
+        ensures { RowsPut self.old self.new base rows.now (length rows.now) }
+    {
+        for j in 0..rows.len() {
+            self.put_row(base + j, rows[j]);
+        }
+    }
+
+    fn put_header(&mut self, at: usize, owed: Owed)
+        requires { at < length self.old.records.now }
+        ensures { HeaderPut self.old self.new at owed }
+    {
+        let mut record = self.records[at];
+        record.owed = Some(owed);
+        self.records[at] = record;
+    }
+
+    // What is owed at a place joins the obligations, with the facts of its question and its goal. Where there are too many facts, or no room, the answer is false and nothing changes.
+    pub fn owe(&mut self, duty: Duty, place: usize, facts: &[Row], goal: Row) -> bool
+        ensures value { result ≡ takes_one (length self.old.records.now) self.old.owed (length facts.now) }
+        ensures put { PutIf result self.old self.new duty place facts.now goal }
+    {
+        let count = self.owed;
+        if facts.len() > MOST_FACTS || count >= self.records.len() / ROWS_EACH {
+            return false;
+        }
+        let base = ROWS_EACH * count;
+        self.put_rows(base, facts);
+        self.put_row(base + MOST_FACTS, goal);
+        self.put_header(
+            count,
+            Owed {
+                duty,
+                place,
+                facts: facts.len(),
+            },
+        );
+        self.owed = count + 1;
+        true
+    }
+}

@@ -1,0 +1,109 @@
+-- What owing one row comes to.
+use Rattle.std.proofs.Common.{◌≡◌, ℕ, suc, ◌+◌, ◌*◌, ◌<◌, ◌≤◌, true, cond, List, [], ◌∷◌, ◌++◌, length, Some, None, Ok, Err, Option, Result, pos, sym, refl, ap, ◌∙◌, subst, arith, le-leb}
+use Rattle.std.proofs.lemmas.Bool.{and_from, lt-ltb, le-ltb}
+use Rattle.rows.specs.declared.row.Row.{Row}
+use Rattle.language.specs.declared.owed.Duty.{Duty}
+use Rattle.language.specs.declared.refusal.Refusal.TheVariants.{Full, Large}
+use Rattle.language.specs.declared.owed.Duty.TheVariants.{Below, Above, Guard}
+use Rattle.language.specs.declared.refusal.Refusal.{Refusal}
+use Rattle.language.specs.declared.term.Term.{Term}
+use Rattle.language.specs.Terms.{zeroTerm}
+use Rattle.language.specs.Comparing.{at_most}
+use Rattle.language.specs.Walking.{Note, owes, fault, Owing, owe, oweAll, oweChecks, obligationsOf, firstFault}
+use Rattle.language.proofs.Laws.{fault-first, fault-next}
+use Rattle.std.proofs.lemmas.List.{append-nil, append_assoc, length-append}
+use Rattle.records.specs.declared.laid.Laid.{Laid}
+use Rattle.records.specs.Owing.{OwesAll, takes_one}
+use Rattle.records.specs.Added.{OnePut}
+use Rattle.walking.specs.Owing.{Pays, Breaks, Paid, checks}
+
+module _ (duty : Duty) (place work : ℕ) (facts : List Row) (count : ℕ) where
+  pub owe-none : firstFault (owe duty place work facts count None).notes ≡ Some (Large work)
+  unfolding owe firstFault
+  owe-none = refl
+
+  module _ (row : Row) where
+    pub owe-full : 128 ≤ count → firstFault (owe duty place work facts count (Some row)).notes ≡ Some (Full work)
+    unfolding owe firstFault
+    owe-full h = ap (λ b. cond b None (Some (Full work))) (le-ltb count 128 h)
+
+    pub owe-fine : count < 128 → firstFault (owe duty place work facts count (Some row)).notes ≡ None
+    unfolding owe firstFault
+    owe-fine h = ap (λ b. cond b None (Some (Full work))) (lt-ltb count 128 h)
+
+    pub owe-one : obligationsOf (owe duty place work facts count (Some row)).notes ≡ record { number = count; duty = duty; place = place; facts = facts; goal = row } ∷ []
+    unfolding owe obligationsOf
+    owe-one = refl
+
+    pub owe-count : (owe duty place work facts count (Some row)).count ≡ suc count
+    unfolding owe
+    owe-count = refl
+
+owed-append : (ms ns : List Note) → obligationsOf (ms ++ ns) ≡ obligationsOf ms ++ obligationsOf ns
+unfolding obligationsOf
+owed-append [] ns = refl
+owed-append (owes o work ∷ ms) ns = ap (λ os. o ∷ os) (owed-append ms ns)
+owed-append (fault r ∷ ms) ns = owed-append ms ns
+
+-- there is room for it
+pub has_room : (records count facts : ℕ) → 3200 ≤ records → facts ≤ 24 → count < 128 → takes_one records count facts ≡ true
+has_room records count facts s f h = and_from _ _ (le-leb facts 24 f) (le-leb (25 * (count + 1)) records (omega arith))
+
+pub pays-one : (t u : Laid) (duty : Duty) (place work : ℕ) (facts : List Row) (row : Row) → t.owed < 128 → OnePut t u duty place facts row → Pays (owe duty place work facts t.owed (Some row)) t u
+pays-one t u duty place work facts row h p = record {
+  faultless = owe-fine duty place work facts t.owed row h;
+  columns = p.columns;
+  count = p.count ∙ sym (owe-count duty place work facts t.owed row);
+  number = (let e = ap length (owe-one duty place work facts t.owed row) in omega (arith, p.count));
+  owes = λ os e o. subst (λ ps. OwesAll u.records.now (os ++ ps)) (sym (owe-one duty place work facts t.owed row)) (p.owes os e o);
+}
+
+-- nothing is owed
+pub pays-none : (t : Laid) → Pays (record { count = t.owed; notes = [] }) t t
+unfolding obligationsOf firstFault
+pays-none t = record { faultless = refl; columns = refl; count = refl; number = omega arith; owes = λ os e w. subst (λ ps. OwesAll t.records.now ps) (sym (append-nil os)) w }
+
+-- one step after another
+pub pays-then : (o p : Owing) (t u v : Laid) → Pays o t u → Pays p u v → Pays (record { count = p.count; notes = o.notes ++ p.notes }) t v
+pays-then o p t u v a b =
+    let e = owed-append o.notes p.notes in record {
+      faultless = fault-next o.notes p.notes a.faultless ∙ b.faultless;
+      columns = b.columns ∙ a.columns;
+      count = b.count;
+      number = omega (arith, a.number, b.number, ap length e, length-append (obligationsOf o.notes) (obligationsOf p.notes));
+      owes = λ os h w. subst (λ ps. OwesAll v.records.now ps) (append_assoc os (obligationsOf o.notes) (obligationsOf p.notes) ∙ sym (ap (λ qs. os ++ qs) e))
+          (b.owes (os ++ obligationsOf o.notes) (omega (arith, a.number, length-append os (obligationsOf o.notes))) (a.owes os h w));
+    }
+
+pub breaks-then : (r : Refusal) (o : Owing) (ns : List Note) (t u v : Laid) → Pays o t u → Breaks r ns u v → Breaks r (o.notes ++ ns) t v
+breaks-then r o ns t u v a b = record { fault = fault-next o.notes ns a.faultless ∙ b.fault; columns = b.columns ∙ a.columns }
+
+pub breaks-first : (r : Refusal) (ms ns : List Note) (t u : Laid) → Breaks r ms t u → Breaks r (ms ++ ns) t u
+breaks-first r ms ns t u b = record { fault = fault-first ms ns r b.fault; columns = b.columns }
+
+-- the second step, after one that went well
+pub paid-then : (r : Result (Unit {0}) Refusal) (o p : Owing) (t u v : Laid) → Pays o t u → Paid r p u v → Paid r (record { count = p.count; notes = o.notes ++ p.notes }) t v
+paid-then (Ok w) o p t u v a b = pays-then o p t u v a b
+paid-then (Err e) o p t u v a b = breaks-then e o p.notes t u v a b
+
+module _ (place : ℕ) (facts : List Row) (count : ℕ) where
+  abbrev guard : ℕ → Option Row → Owing
+  guard n o = owe Guard place place facts n o
+
+  pub one-row : (o : Option Row) → oweAll place facts count (o ∷ []) ≡ guard count o
+  unfolding oweAll
+  one-row o = ap (λ ns. record { count = (guard count o).count; notes = ns }) (append-nil (guard count o).notes)
+
+  pub two-rows : (o p : Option Row) → oweAll place facts count (o ∷ p ∷ []) ≡ record { count = (guard (guard count o).count p).count; notes = (guard count o).notes ++ (guard (guard count o).count p).notes }
+  unfolding oweAll
+  two-rows o p = ap (λ ns. record { count = (guard (guard count o).count p).count; notes = (guard count o).notes ++ ns }) (append-nil (guard (guard count o).count p).notes)
+
+-- the checks of an index are two steps
+pub both-checks : (place work : ℕ) (facts : List Row) (count : ℕ) (index size : Term) →
+    checks place work facts count index size
+    ≡ record {
+      count = (owe Above place work facts (owe Below place work facts count (at_most (pos 0) zeroTerm index)).count (at_most (pos 1) index size)).count;
+      notes = (owe Below place work facts count (at_most (pos 0) zeroTerm index)).notes ++ (owe Above place work facts (owe Below place work facts count (at_most (pos 0) zeroTerm index)).count (at_most (pos 1) index size)).notes;
+    }
+unfolding oweChecks
+both-checks place work facts count index size = refl
