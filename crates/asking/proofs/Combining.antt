@@ -15,17 +15,17 @@ use Rattle.rows.specs.Limits.{fits}
 use Rattle.domains.specs.declared.linear.Column.{Column}
 use Rattle.domains.specs.declared.linear.Column.TheVariants.{Coef, Bound}
 use Rattle.provers.specs.declared.derived.Derived.{Derived}
-use Rattle.provers.specs.Derivations.{coefAt, timesAt, blend, blended, quotient, lowest, allModest, within, combine}
+use Rattle.provers.specs.Derivations.{coef_at, times_at, blend, blended, quotient, lowest, all_modest, within, combine}
 use Rattle.provers.proofs.Limited.{kept-some}
-use Rattle.asking.proofs.Columns.{derivedEntry, Listed, combination}
+use Rattle.asking.proofs.Columns.{derived_entry, Listed, combination}
 use Rattle.asking.proofs.Quotients.{exact}
 
 module _ (q : ℕ) (p m w : Derived) (h : combine q p m ≡ Some w) where
   abbrev a : ℕ
-  a = nat_abs (coefAt q m)
+  a = nat_abs (coef_at q m)
 
   abbrev b : ℕ
-  b = nat_abs (coefAt q p)
+  b = nat_abs (coef_at q p)
 
   abbrev sum : Derived
   sum = blended a b p m
@@ -37,27 +37,27 @@ module _ (q : ℕ) (p m w : Derived) (h : combine q p m ≡ Some w) where
   unfolding combine
   made = kept-some within (lowest sum) w (sym h)
 
-  entry-is : (c : Column) → Listed c → quotient g (blend a b (derivedEntry c p) (derivedEntry c m)) ≡ derivedEntry c w
+  entry-is : (c : Column) → Listed c → quotient g (blend a b (derived_entry c p) (derived_entry c m)) ≡ derived_entry c w
   entry-is (Coef j) l =
-      let f : ℕ → ℤ = λ i. blend a b (coefAt i p) (coefAt i m) in
+      let f : ℕ → ℤ = λ i. blend a b (coef_at i p) (coef_at i m) in
       ap (quotient g) (sym (get_or-map-range_with_len f 0 16 j j (pos 0) l (omega arith)))
       ∙ sym (get_or-map (quotient g) sum.coefs j (pos 0) (pos 0) (let n = length-map-range_with_len f 0 16 in omega arith))
-      ∙ ap (coefAt j) made.1
+      ∙ ap (coef_at j) made.1
   entry-is Bound l = ap (λ (d : Derived). d.bound) made.1
 
-  abbrev timesOf : ℕ → ℕ
-  timesOf i = a * timesAt i p + b * timesAt i m
+  abbrev times_of : ℕ → ℕ
+  times_of i = a * times_at i p + b * times_at i m
 
-  times-sum : (i : ℕ) → i < 25 → timesAt i sum ≡ timesOf i
-  times-sum i l = get_or-map-range_with_len timesOf 0 25 i i 0 l (omega arith)
+  times-sum : (i : ℕ) → i < 25 → times_at i sum ≡ times_of i
+  times-sum i l = get_or-map-range_with_len times_of 0 25 i i 0 l (omega arith)
 
   times-count : length sum.times ≡ 25
-  times-count = length-map-range_with_len timesOf 0 25
+  times-count = length-map-range_with_len times_of 0 25
 
-  times-quotient : (i : ℕ) → i < 25 → timesAt i sum / g ≡ timesAt i w
-  times-quotient i l = sym (get_or-map (λ n. n / g) sum.times i 0 0 (let n = times-count in omega arith)) ∙ ap (timesAt i) made.1
+  times-quotient : (i : ℕ) → i < 25 → times_at i sum / g ≡ times_at i w
+  times-quotient i l = sym (get_or-map (λ n. n / g) sum.times i 0 0 (let n = times-count in omega arith)) ∙ ap (times_at i) made.1
 
-  pub times_none : (i : ℕ) → i < 25 → timesAt i p ≡ 0 → timesAt i m ≡ 0 → timesAt i w ≡ 0
+  pub times_none : (i : ℕ) → i < 25 → times_at i p ≡ 0 → times_at i m ≡ 0 → times_at i w ≡ 0
   times_none i l e f =
       let z : a * 0 + b * 0 ≡ 0 = omega arith in
       sym (times-quotient i l) ∙ ap (λ n. n / g) (times-sum i l ∙ ap₂ (λ x y. a * x + b * y) e f ∙ z) ∙ zero-div g
@@ -65,10 +65,10 @@ module _ (q : ℕ) (p m w : Derived) (h : combine q p m ≡ Some w) where
   pub times_long : length w.times ≡ 25
   times_long = ap (λ (d : Derived). length d.times) (sym made.1) ∙ length-map sum.times (λ n. n / g) ∙ times-count
 
-  pub times-modest : allModest w.times ≡ true
-  times-modest = ap (λ (d : Derived). allModest d.times) (sym made.1) ∙ (and_parts (fits (lowest sum).coefs (lowest sum).bound) _ made.0).1
+  pub times-modest : all_modest w.times ≡ true
+  times-modest = ap (λ (d : Derived). all_modest d.times) (sym made.1) ∙ (and_parts (fits (lowest sum).coefs (lowest sum).bound) _ made.0).1
 
-  times-exact : (i : ℕ) → i < 25 → timesAt i sum ≡ g * timesAt i w
+  times-exact : (i : ℕ) → i < 25 → times_at i sum ≡ g * times_at i w
   times-exact i l =
       let n : i < length sum.times = (let n = times-count in omega arith) in
       sym (ap (λ x. g * x) (sym (times-quotient i l)) ∙ mul-div_cancel' g (divides sum.times i n))
@@ -76,13 +76,13 @@ module _ (q : ℕ) (p m w : Derived) (h : combine q p m ≡ Some w) where
   -- a column of the sum is g times the column of the new row
   pub column-is : (t : ℕ → ℤ) → blend a b (combination t p.times) (combination t m.times) ≡ pos g *ℤ combination t w.times
   column-is t =
-      sym (weighted-blend t a b (λ i. timesAt i p) (λ i. timesAt i m) (λ i. timesAt i sum) 25 times-sum)
-      ∙ weighted-scale t g (λ i. timesAt i w) (λ i. timesAt i sum) 25 times-exact
+      sym (weighted-blend t a b (λ i. times_at i p) (λ i. times_at i m) (λ i. times_at i sum) 25 times-sum)
+      ∙ weighted-scale t g (λ i. times_at i w) (λ i. times_at i sum) 25 times-exact
 
-  pub entry-combined : (c : Column) → Listed c → (y : ℤ) → blend a b (derivedEntry c p) (derivedEntry c m) ≡ pos g *ℤ y → derivedEntry c w ≡ y
+  pub entry-combined : (c : Column) → Listed c → (y : ℤ) → blend a b (derived_entry c p) (derived_entry c m) ≡ pos g *ℤ y → derived_entry c w ≡ y
   entry-combined c l y e = sym (entry-is c l) ∙ exact g y _ (omega arith) e
 
-  pub zero-combined : (j : ℕ) → j < 16 → blend a b (coefAt j p) (coefAt j m) ≡ pos 0 → coefAt j w ≡ pos 0
+  pub zero-combined : (j : ℕ) → j < 16 → blend a b (coef_at j p) (coef_at j m) ≡ pos 0 → coef_at j w ≡ pos 0
   zero-combined j l e = entry-combined (Coef j) l (pos 0) (e ∙ sym (*ℤ-zero (pos g)))
 
 -- the quantity itself leaves

@@ -6,14 +6,14 @@ use Rattle.records.specs.declared.node.Node.{Node}
 use Rattle.records.specs.declared.node.Node.TheVariants.{Blank, Num, Name, Calc, Read, Call, Bind, Test, Put, Claim, End, Value, Lent}
 use Rattle.records.specs.declared.condition.Condition.{Condition}
 use Rattle.records.specs.Columns.{Columns}
-use Rattle.records.specs.Counting.{nodeUpTo, nodesUpTo, listedUpTo}
-use Rattle.counting.specs.Counts.{isUpTo, exprPlace, placedUpTo, sheetExprs, sheetConditions, faultBy, countFault, flatFault}
+use Rattle.records.specs.Counting.{node_up_to, nodes_up_to, listed_up_to}
+use Rattle.counting.specs.Counts.{is_up_to, expr_place, placed_up_to, sheet_exprs, sheet_conditions, fault_by, count_fault, flat_fault}
 use Rattle.counting.specs.declared.placed.Placed.TheVariants.{Exprs, Conditions}
-use Rattle.counting.specs.Places.{placedIn}
+use Rattle.counting.specs.Places.{placed_in}
 use Rattle.counting.proofs.Firsts.{Rising, placed-rises}
 use Rattle.counting.proofs.Places.{placed-map}
 
-node-placed : (q : ℕ) (n : Node) → cond (isUpTo q (exprPlace n)) 1 0 ≡ nodeUpTo q n
+node-placed : (q : ℕ) (n : Node) → cond (is_up_to q (expr_place n)) 1 0 ≡ node_up_to q n
 node-placed q Blank = refl
 node-placed q (Num p n) = refl
 node-placed q (Name p i) = refl
@@ -28,26 +28,26 @@ node-placed q End = refl
 node-placed q (Value a xs) = refl
 node-placed q (Lent l xs) = refl
 
-nodes-at : (nodes : List Node) (q : ℕ) → placedUpTo exprPlace nodes q ≡ nodesUpTo q nodes
-unfolding nodesUpTo
+nodes-at : (nodes : List Node) (q : ℕ) → placed_up_to expr_place nodes q ≡ nodes_up_to q nodes
+unfolding nodes_up_to
 nodes-at nodes q = ap (λ (f : Node → ℕ). sum_by f nodes) (λ i n. node-placed q n i)
 
-conditions-at : (conditions : List Condition) (q : ℕ) → placedUpTo (λ (c : Condition). Some c.place) conditions q ≡ listedUpTo q conditions
-unfolding listedUpTo
+conditions-at : (conditions : List Condition) (q : ℕ) → placed_up_to (λ (c : Condition). Some c.place) conditions q ≡ listed_up_to q conditions
+unfolding listed_up_to
 conditions-at conditions q = refl
 
-pub exprs-placed : (c : Columns) → placedIn c Exprs ≡ (λ q. nodesUpTo q c.nodes.entries)
-exprs-placed c = λ i q. (placed-map exprPlace c.nodes.entries q ∙ nodes-at c.nodes.entries q) i
+pub exprs-placed : (c : Columns) → placed_in c Exprs ≡ (λ q. nodes_up_to q c.nodes.entries)
+exprs-placed c = λ i q. (placed-map expr_place c.nodes.entries q ∙ nodes-at c.nodes.entries q) i
 
-pub conditions-placed : (c : Columns) → placedIn c Conditions ≡ (λ q. listedUpTo q c.conditions.entries)
+pub conditions-placed : (c : Columns) → placed_in c Conditions ≡ (λ q. listed_up_to q c.conditions.entries)
 conditions-placed c = λ i q. (placed-map (λ (x : Condition). Some x.place) c.conditions.entries q ∙ conditions-at c.conditions.entries q) i
 
-pub nodes-rise : (nodes : List Node) → Rising (λ q. nodesUpTo q nodes)
-nodes-rise nodes p q h = omega (arith, placed-rises exprPlace nodes p q h, nodes-at nodes p, nodes-at nodes q)
+pub nodes-rise : (nodes : List Node) → Rising (λ q. nodes_up_to q nodes)
+nodes-rise nodes p q h = omega (arith, placed-rises expr_place nodes p q h, nodes-at nodes p, nodes-at nodes q)
 
-pub conditions-rise : (conditions : List Condition) → Rising (λ q. listedUpTo q conditions)
+pub conditions-rise : (conditions : List Condition) → Rising (λ q. listed_up_to q conditions)
 conditions-rise conditions p q h = omega (arith, placed-rises (λ (c : Condition). Some c.place) conditions p q h, conditions-at conditions p, conditions-at conditions q)
 
 -- for who knows that the tables count as the tree does
-pub flat-fault : (bytes : ℕ) (written : List Raw.Rule) (tree : List Tree.Rule) (nodes : List Node) (conditions : List Condition) → ((q : ℕ) → nodesUpTo q nodes ≡ sheetExprs q tree) → ((q : ℕ) → listedUpTo q conditions ≡ sheetConditions q tree) → flatFault bytes written nodes conditions ≡ countFault bytes written tree
-flat-fault bytes written tree nodes conditions exprs listed = λ i. faultBy bytes written (λ q. exprs q i) (λ q. listed q i)
+pub flat-fault : (bytes : ℕ) (written : List Raw.Rule) (tree : List Tree.Rule) (nodes : List Node) (conditions : List Condition) → ((q : ℕ) → nodes_up_to q nodes ≡ sheet_exprs q tree) → ((q : ℕ) → listed_up_to q conditions ≡ sheet_conditions q tree) → flat_fault bytes written nodes conditions ≡ count_fault bytes written tree
+flat-fault bytes written tree nodes conditions exprs listed = λ i. fault_by bytes written (λ q. exprs q i) (λ q. listed q i)

@@ -4,13 +4,13 @@ use Rattle.records.specs.declared.condition.Condition.{Condition}
 use Rattle.records.specs.Columns.{Columns}
 use Rattle.counting.specs.declared.placed.Placed.{Placed}
 use Rattle.counting.specs.declared.placed.Placed.TheVariants.{Exprs, Conditions}
-use Rattle.counting.specs.Counts.{exprPlace, placedUpTo}
+use Rattle.counting.specs.Counts.{expr_place, placed_up_to}
 
 -- the place of each entry, in order
-abbrev pub placesIn : Columns → Placed → List (Option ℕ)
-placesIn c Exprs = map exprPlace c.nodes.entries
-placesIn c Conditions = map (λ (x : Condition). Some x.place) c.conditions.entries
+abbrev pub places_in : Columns → Placed → List (Option ℕ)
+places_in c Exprs = map expr_place c.nodes.entries
+places_in c Conditions = map (λ (x : Condition). Some x.place) c.conditions.entries
 
 -- how many entries have a place up to a byte
-abbrev pub placedIn : Columns → Placed → ℕ → ℕ
-placedIn c table = placedUpTo (λ place. place) (placesIn c table)
+abbrev pub placed_in : Columns → Placed → ℕ → ℕ
+placed_in c table = placed_up_to (λ place. place) (places_in c table)

@@ -1,10 +1,10 @@
 ghost use Rattle.std.specs.Prelude.{◌≡◌};
 ghost use Rattle.std.specs.List.{slice_get};
-ghost use Rattle.grammar.specs.Trees.{look_of, rawAt, ruleIn};
+ghost use Rattle.grammar.specs.Trees.{look_of, raw_at, rule_in};
 ghost use Rattle.naming.specs.Least.{least};
-ghost use Rattle.naming.specs.Sources.{source_of, rulesOf};
+ghost use Rattle.naming.specs.Sources.{source_of, rules_of};
 ghost use Rattle.naming.specs.Stretching.{left, written};
-ghost use Rattle.counting.specs.Counts.{headsOver, placeIf, places_of, rulesOver};
+ghost use Rattle.counting.specs.Counts.{heads_over, place_if, places_of, rules_over};
 
 use naming::{Head, Param, Written, earlier};
 
@@ -16,7 +16,7 @@ const MOST_NUMBERS: usize = 8;
 
 // The place of a parameter's name, if it is a list, or else if it is a number.
 fn place_of(sheet: Written<'_>, param: Param, list: bool) -> Option<usize>
-    ensures { result ≡ placeIf list (written (look_of (source_of sheet.entry)) param) }
+    ensures { result ≡ place_if list (written (look_of (source_of sheet.entry)) param) }
 {
     if param.length.is_some() == list {
         Some(sheet.token(param.name).place)
@@ -46,7 +46,7 @@ fn nth_param(sheet: Written<'_>, head: Head, list: bool, skip: usize) -> Option<
 
 // The first list or number too many of the rule at a position, if one stands there.
 fn head_over(sheet: Written<'_>, at: usize) -> Option<usize>
-    ensures { result ≡ least (headsOver (ruleIn (source_of sheet.entry) (rawAt (source_of sheet.entry) at sheet.entry.nodes.now) (slice_get sheet.entry.nodes.now at))) }
+    ensures { result ≡ least (heads_over (rule_in (source_of sheet.entry) (raw_at (source_of sheet.entry) at sheet.entry.nodes.now) (slice_get sheet.entry.nodes.now at))) }
 {
     let rule = sheet.rule(at)?;
     let head = sheet.head(rule.params);
@@ -58,7 +58,7 @@ fn head_over(sheet: Written<'_>, at: usize) -> Option<usize>
 
 // The first list or number too many of all rules.
 pub(crate) fn heads_over(sheet: Written<'_>) -> Option<usize>
-    ensures { result ≡ least (headsOver (rulesOf sheet.entry)) }
+    ensures { result ≡ least (heads_over (rules_of sheet.entry)) }
 {
     let mut over = None;
     for at in 0..sheet.nodes.len() {
@@ -69,7 +69,7 @@ pub(crate) fn heads_over(sheet: Written<'_>) -> Option<usize>
 
 // The keyword of the first rule too many.
 pub(crate) fn rules_over(sheet: Written<'_>) -> Option<usize>
-    ensures { result ≡ least (rulesOver (rulesOf sheet.entry)) }
+    ensures { result ≡ least (rules_over (rules_of sheet.entry)) }
 {
     let mut rules = 0;
     for at in 0..sheet.nodes.len() {

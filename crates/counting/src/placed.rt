@@ -1,7 +1,7 @@
 ghost use Rattle.std.specs.Prelude.{◌≡◌, None, length, slice_index_or};
 ghost use Rattle.records.specs.Laying.{columns_of};
-ghost use Rattle.counting.specs.Counts.{exprPlace};
-ghost use Rattle.counting.specs.Places.{placesIn};
+ghost use Rattle.counting.specs.Counts.{expr_place};
+ghost use Rattle.counting.specs.Places.{places_in};
 
 use records::{Laid, Node};
 
@@ -14,7 +14,7 @@ pub enum Placed {
 
 // Expressions have places, links of arguments have none.
 fn expr_place(node: Node) -> Option<usize>
-    ensures { result ≡ exprPlace node }
+    ensures { result ≡ expr_place node }
 {
     match node {
         Node::Num { place, .. } => Some(place),
@@ -33,7 +33,7 @@ fn expr_place(node: Node) -> Option<usize>
 impl Placed {
     // How many entries the table has.
     pub(crate) fn count(self, tables: &Laid<'_>) -> usize
-        ensures { result ≡ length (placesIn (columns_of tables.now) self) }
+        ensures { result ≡ length (places_in (columns_of tables.now) self) }
     {
         match self {
             Placed::Exprs => tables.nodes(),
@@ -43,7 +43,7 @@ impl Placed {
 
     // The place of the entry at a position, if it has one.
     pub(crate) fn place(self, tables: &Laid<'_>, at: usize) -> Option<usize>
-        ensures { result ≡ slice_index_or (placesIn (columns_of tables.now) self) at None }
+        ensures { result ≡ slice_index_or (places_in (columns_of tables.now) self) at None }
     {
         match self {
             Placed::Exprs => expr_place(tables.node(at)?),

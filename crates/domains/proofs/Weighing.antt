@@ -8,7 +8,7 @@ use Rattle.rows.specs.declared.row.Row.{Row}
 use Rattle.rows.proofs.Limiting.{coef-near, bound-near}
 use Rattle.domains.specs.declared.linear.Column.{Column}
 use Rattle.domains.specs.declared.linear.Column.TheVariants.{Coef, Bound}
-use Rattle.domains.specs.Linear.{weigh, numbers, kinds, kindOk, entry, negated}
+use Rattle.domains.specs.Linear.{weigh, numbers, kinds, kind_ok, entry, negated}
 
 pub entry-near : (c : Column) (r : Row) → Near 4000000 (entry c r)
 entry-near (Coef j) r = coef-near r j
@@ -32,7 +32,7 @@ numbers-at [] i h = omega arith
 numbers-at (x ∷ xs) zero h = leb-true x 1000000 (and_parts _ _ h).0
 numbers-at (x ∷ xs) (suc i) h = numbers-at xs i (and_parts _ _ h).1
 
-pub kinds-more : (ms : List ℕ) (rs : List Row) (i : ℕ) (r : Row) → i < length ms → i < length rs → r ≡ get_or rs i r → kinds (drop i ms) (drop i rs) ≡ (kindOk (get_or ms i 0) r.kind && kinds (drop (i + 1) ms) (drop (i + 1) rs))
+pub kinds-more : (ms : List ℕ) (rs : List Row) (i : ℕ) (r : Row) → i < length ms → i < length rs → r ≡ get_or rs i r → kinds (drop i ms) (drop i rs) ≡ (kind_ok (get_or ms i 0) r.kind && kinds (drop (i + 1) ms) (drop (i + 1) rs))
 unfolding kinds
 kinds-more ms rs i r h k e = ap₂ kinds (drop_more ms i 0 h) (drop_more rs i r k ∙ ap (λ s. s ∷ drop (i + 1) rs) (sym e))
 

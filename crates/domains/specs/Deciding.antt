@@ -8,17 +8,17 @@ use Rattle.std.proofs.Math.IntN.{zero-*ℤ}
 use Rattle.std.proofs.lemmas.List.{length-set, length-replicate, get_or-set_same, get_or-set_other}
 use Rattle.std.proofs.lemmas.Int.{ints}
 use Rattle.std.proofs.lemmas.Bool.{and_parts, or_left, or_right, cases_eq}
-use Rattle.ints.specs.Tests.{is_zero, anyBelow}
+use Rattle.ints.specs.Tests.{is_zero, any_below}
 use Rattle.ints.proofs.Belows.{any_none, any_some}
 use Rattle.ints.proofs.Sums.{sum_same}
 use Rattle.rows.specs.declared.row.Row.{Row}
 use Rattle.rows.specs.Meaning.{Assignment, coef, value, Meets, MeetsAll, Within, Follows}
-use Rattle.rows.specs.Questions.{wellShaped}
-use Rattle.rows.specs.Testing.{holds, meets, meetsAll}
+use Rattle.rows.specs.Questions.{well_shaped}
+use Rattle.rows.specs.Testing.{holds, meets, meets_all}
 use Rattle.rows.proofs.Tested.{holds-is, is-holds, meets-all-is}
 use Rattle.domains.specs.declared.fault.Reason.TheVariants.{Shape, Width, Case}
 use Rattle.domains.specs.Faults.{Good, fault}
-use Rattle.domains.specs.Modes.{occursIn, occurs, width, at, breaks, broken, modes, Broken}
+use Rattle.domains.specs.Modes.{occurs_in, occurs, width, at, breaks, broken, modes, Broken}
 use Rattle.domains.specs.Outcomes.{good-parts}
 
 zero_or : (z p q : ℤ) → (is_zero z ≡ false → p ≡ q) → z *ℤ p ≡ z *ℤ q
@@ -30,8 +30,8 @@ zero_or (negsuc n) p q h = ap (λ x. negsuc n *ℤ x) (h refl)
 same-value : (r : Row) (p q : Assignment) → ((j : ℕ) → j < 16 → is_zero (coef r j) ≡ false → p j ≡ q j) → value r p ≡ value r q
 same-value r p q h = sum_same _ _ 16 (λ j l. zero_or (coef r j) (p j) (q j) (h j l))
 
-all-met : (p q : Assignment) (rs : List Row) → ((j : ℕ) → j < 16 → occursIn j rs ≡ true → p j ≡ q j) → MeetsAll q rs → meetsAll p rs ≡ true
-unfolding meetsAll occursIn
+all-met : (p q : Assignment) (rs : List Row) → ((j : ℕ) → j < 16 → occurs_in j rs ≡ true → p j ≡ q j) → MeetsAll q rs → meets_all p rs ≡ true
+unfolding meets_all occurs_in
 all-met p q [] h m = refl
 all-met p q (r ∷ rs) h m =
     ap₂ (λ x y. x && y)
@@ -62,7 +62,7 @@ module _ (facts : List Row) (goal : Row) where
     holds-up w m (suc n) p l s a f =
         let r = w n (omega arith) in
         let v = found (q n) r.0 r.1 in
-        let F : Bool → Type 0 = λ b. occurs facts goal n ≡ b → cond b (anyBelow 16 (λ x. broken facts goal n (slice_set p n x))) (broken facts goal n p) ≡ false → Meets q goal in
+        let F : Bool → Type 0 = λ b. occurs facts goal n ≡ b → cond b (any_below 16 (λ x. broken facts goal n (slice_set p n x))) (broken facts goal n p) ≡ false → Meets q goal in
         let both : F (occurs facts goal n) = elim (occurs facts goal n) as F [
           | true ↦ λ o k. holds-up w m n (slice_set p n v.0) (omega arith) (simp length-set s)
               (λ j b c d. ⊎_elim (λ e. ap pos (ap (λ i. slice_index (slice_set p n v.0) i) e ∙ get_or-set_same p n v.0 0 (omega arith)) ∙ sym (ap q e ∙ v.1.1)) (λ ne. ap pos (get_or-set_other p n j v.0 0 ne) ∙ a j (omega arith) c d) (cases_eq j n))
@@ -90,7 +90,7 @@ module _ (facts : List Row) (goal : Row) where
     unfolding broken
     breaking zero p l s low f = (p, (low, f))
     breaking (suc n) p l s low f =
-        let F : Bool → Type 0 = λ b. cond b (anyBelow 16 (λ x. broken facts goal n (slice_set p n x))) (broken facts goal n p) ≡ true → (r : List ℕ) × (Low r × (breaks facts goal (at r) ≡ true)) in
+        let F : Bool → Type 0 = λ b. cond b (any_below 16 (λ x. broken facts goal n (slice_set p n x))) (broken facts goal n p) ≡ true → (r : List ℕ) × (Low r × (breaks facts goal (at r) ≡ true)) in
         let both : F (occurs facts goal n) = elim (occurs facts goal n) as F [
           | true ↦ λ k. let v = any_some (λ x. broken facts goal n (slice_set p n x)) 16 k in breaking n (slice_set p n v.0) (omega arith) (simp length-set s) (low-set p n v.0 s (omega arith) v.1.0 low) v.1.1
           | false ↦ λ k. breaking n p (omega arith) s low k
@@ -112,12 +112,12 @@ module _ (facts : List Row) (goal : Row) where
   pub modes-broken : broken facts goal 16 (replicate 16 0) ≡ true → Broken (pos 0) (pos 15) facts goal
   modes-broken f =
       let r = breaking 16 (replicate 16 0) (omega arith) (length-replicate {A = ℕ} 16 0) low_zeros f in
-      let p = and_parts (meetsAll (at r.0) facts) _ r.1.1 in
+      let p = and_parts (meets_all (at r.0) facts) _ r.1.1 in
       record {
         by = at r.0;
         within = λ j l. let h = r.1.0 j in (omega (arith, ints), omega (arith, ints));
-        meetsFacts = meets-all-is (at r.0) facts p.0;
-        breaksGoal = λ m. true-not (meets (at r.0) goal) p.1 (is-holds _ _ _ m);
+        meets_facts = meets-all-is (at r.0) facts p.0;
+        breaks_goal = λ m. true-not (meets (at r.0) goal) p.1 (is-holds _ _ _ m);
       }
 
   good-last : (b : Bool) → Good (cond b (fault Case) (Ok tt)) → b ≡ false
@@ -126,6 +126,6 @@ module _ (facts : List Row) (goal : Row) where
 
   pub modes-sound : (cert : List ℕ) → Good (modes facts goal cert) → Follows (pos 0) (pos 15) facts goal
   modes-sound cert g =
-      let s = good-parts (wellShaped facts goal && length cert == 0) _ Shape g in
+      let s = good-parts (well_shaped facts goal && length cert == 0) _ Shape g in
       let w = good-parts (nat_le (width facts goal) 4) _ Width s.1 in
       modes-follow (good-last (broken facts goal 16 (replicate 16 0)) w.1)

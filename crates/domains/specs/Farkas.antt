@@ -12,12 +12,12 @@ use Rattle.rows.specs.declared.row.Row.{Row}
 use Rattle.rows.specs.declared.row.Kind.{Kind}
 use Rattle.rows.specs.declared.row.Kind.TheVariants.{AtMost, Unequal}
 use Rattle.rows.specs.Meaning.{coef, value, Holds, MeetsAll, Follows, Assignment}
-use Rattle.rows.specs.Questions.{wellShaped}
+use Rattle.rows.specs.Questions.{well_shaped}
 use Rattle.rows.proofs.Shapes.{at-most-is}
 use Rattle.domains.specs.declared.fault.Reason.TheVariants.{Shape, Number, Kind as OfKind, Sum}
 use Rattle.domains.specs.declared.linear.Column.TheVariants.{Coef}
 use Rattle.domains.specs.Faults.{Good}
-use Rattle.domains.specs.Linear.{weigh, total, numbers, kindOk, kinds, fitting, sums, linear}
+use Rattle.domains.specs.Linear.{weigh, total, numbers, kind_ok, kinds, fitting, sums, linear}
 use Rattle.domains.specs.Outcomes.{good-parts}
 
 module _ (q : Assignment) where
@@ -29,7 +29,7 @@ module _ (q : Assignment) where
   weigh-at (m ∷ ms) (r ∷ rs) last n =
       ap₂ (λ x y. x +ℤ y) (sym (at-times q m (coef r) n)) (weigh-at ms rs last n) ∙ sym (at_sum q (λ j. pos m *ℤ coef r j) (λ j. weigh ms rs (λ s. coef s j) (last j)) n)
 
-  weighted : (m : ℕ) (k : Kind) (v b : ℤ) → kindOk m k ≡ true → Holds k v b → (pos m *ℤ v) ≤ℤ (pos m *ℤ b)
+  weighted : (m : ℕ) (k : Kind) (v b : ℤ) → kind_ok m k ≡ true → Holds k v b → (pos m *ℤ v) ≤ℤ (pos m *ℤ b)
   weighted m AtMost v b e h = mul_mono m v b h
   weighted m Unequal v b e h =
       let z = eqb-true m 0 e in
@@ -65,5 +65,5 @@ linear-sound low high facts goal cert g =
     let n = good-parts (numbers cert) _ Number p.1 in
     let k = good-parts (kinds cert facts) _ OfKind n.1 in
     let s = good-parts (sums facts goal cert) _ Sum k.1 in
-    let a = at-most-is goal.kind (and_parts _ _ (and_parts (wellShaped facts goal) _ p.0).0).1 in
+    let a = at-most-is goal.kind (and_parts _ _ (and_parts (well_shaped facts goal) _ p.0).0).1 in
     record { follows = λ q w h. let F : Kind → Type 0 = λ kind. Holds kind (value goal q) goal.bound in subst F (sym a) (farkas q facts goal cert k.0 s.0 h) }

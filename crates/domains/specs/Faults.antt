@@ -28,11 +28,11 @@ Good (Ok _) = Unit {0}
 Good (Err _) = ⊥
 
 -- a fault of the domain asked
-abbrev pub faultOf : Reason → Fault
-faultOf reason = record { reason = reason; depth = 0 }
+abbrev pub fault_of : Reason → Fault
+fault_of reason = record { reason = reason; depth = 0 }
 
 abbrev pub fault : Reason → Outcome
-fault reason = Err (faultOf reason)
+fault reason = Err (fault_of reason)
 
 -- an outcome of the domain below, as a layer passes it up
 abbrev pub raised : Outcome → Outcome

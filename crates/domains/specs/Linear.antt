@@ -5,7 +5,7 @@ use Rattle.rows.specs.declared.row.Row.{Row}
 use Rattle.rows.specs.declared.row.Kind.{Kind}
 use Rattle.rows.specs.declared.row.Kind.TheVariants.{AtMost, Unequal}
 use Rattle.rows.specs.Meaning.{coef}
-use Rattle.rows.specs.Questions.{wellShaped}
+use Rattle.rows.specs.Questions.{well_shaped}
 use Rattle.domains.specs.declared.fault.Reason.TheVariants.{Shape, Number, Kind as OfKind, Sum}
 use Rattle.domains.specs.declared.linear.Column.{Column}
 use Rattle.domains.specs.declared.linear.Column.TheVariants.{Coef, Bound}
@@ -33,7 +33,7 @@ total facts goal cert c = weigh cert facts (entry c) (negated c goal)
 
 -- shape: a well-shaped question, a multiplier for each fact and one for the negated goal
 abbrev pub fitting : List Row → Row → List ℕ → Bool
-fitting facts goal cert = wellShaped facts goal && length cert == length facts + 1
+fitting facts goal cert = well_shaped facts goal && length cert == length facts + 1
 
 -- number: no multiplier above 1,000,000
 unfoldable pub numbers : List ℕ → Bool
@@ -41,14 +41,14 @@ numbers [] = true
 numbers (m ∷ ms) = nat_le m 1000000 && numbers ms
 
 -- kind: no multiplier but 0 at an unequal fact
-abbrev pub kindOk : ℕ → Kind → Bool
-kindOk m AtMost = true
-kindOk m Unequal = m == 0
+abbrev pub kind_ok : ℕ → Kind → Bool
+kind_ok m AtMost = true
+kind_ok m Unequal = m == 0
 
 unfoldable pub kinds : List ℕ → List Row → Bool
 kinds [] rs = true
 kinds (m ∷ ms) [] = true
-kinds (m ∷ ms) (r ∷ rs) = kindOk m r.kind && kinds ms rs
+kinds (m ∷ ms) (r ∷ rs) = kind_ok m r.kind && kinds ms rs
 
 -- sum: the coefficients add to 0 for every quantity, and the bounds to less than 0
 abbrev pub sums : List Row → Row → List ℕ → Bool

@@ -1,5 +1,5 @@
 ghost use Rattle.std.specs.Prelude.{◌≡◌};
-ghost use Rattle.domains.specs.Faults.{number, word, faultOf, raised};
+ghost use Rattle.domains.specs.Faults.{number, word, fault_of, raised};
 
 // Why a certificate is not good, in the order in which domains test.
 #[derive(Clone, Copy)]
@@ -43,7 +43,7 @@ pub struct Fault {
 impl Fault {
     // A fault of the domain asked.
     pub fn new(reason: Reason) -> Fault
-        ensures { result ≡ faultOf reason }
+        ensures { result ≡ fault_of reason }
     {
         Fault { reason, depth: 0 }
     }

@@ -1,8 +1,8 @@
 ghost use Rattle.std.specs.Prelude.{◌≡◌, ℕ, ◌<◌, ◌≤◌, true, false, length, get_or, pos, slice_index_or};
-ghost use Rattle.ints.specs.Tests.{countBelow};
+ghost use Rattle.ints.specs.Tests.{count_below};
 ghost use Rattle.rows.specs.Meaning.{value};
-ghost use Rattle.rows.specs.Testing.{meets, meetsAll};
-ghost use Rattle.domains.specs.Modes.{occursIn, occurs, width, at, breaks, broken, modes, Decides};
+ghost use Rattle.rows.specs.Testing.{meets, meets_all};
+ghost use Rattle.domains.specs.Modes.{occurs_in, occurs, width, at, breaks, broken, modes, Decides};
 ghost use Rattle.domains.specs.Deciding.{modes-sound};
 ghost use Rattle.std.proofs.Common.{rules};
 
@@ -38,7 +38,7 @@ fn met(row: &Row, point: &[u8; 16]) -> bool
 }
 
 fn all_met(rows: &[Row], point: &[u8; 16]) -> bool
-    ensures { result ≡ meetsAll (at point.now) rows.now }
+    ensures { result ≡ meets_all (at point.now) rows.now }
 {
     for row in rows {
         if !met(row, point) {
@@ -56,7 +56,7 @@ fn breaks_goal(facts: &[Row], goal: &Row, point: &[u8; 16]) -> bool
 }
 
 fn any_coef(rows: &[Row], j: usize) -> bool
-    ensures { result ≡ occursIn j rows.now }
+    ensures { result ≡ occurs_in j rows.now }
 {
     for row in rows {
         if row.coef(j) != 0 {
@@ -84,7 +84,7 @@ fn occurring(facts: &[Row], goal: &Row) -> [bool; 16]
 }
 
 fn count(flags: &[bool; 16]) -> usize
-    ensures { result ≡ countBelow 16 (λ j. get_or flags.now j false) }
+    ensures { result ≡ count_below 16 (λ j. get_or flags.now j false) }
 {
     let mut n = 0;
     for j in 0..QUANTITIES {

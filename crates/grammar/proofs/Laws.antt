@@ -6,8 +6,8 @@ use Rattle.std.proofs.lemmas.Result.{err_from_is_err_and}
 use Rattle.letters.specs.declared.kind.Kind.{Kind}
 use Rattle.letters.specs.declared.kind.Kind.TheVariants.{End}
 use Rattle.letters.specs.declared.token.Token.{Token}
-use Rattle.letters.specs.Kinds.{number, sameKind}
-use Rattle.grammar.specs.Parsers.{lookIn, is_a, Ans, done, P, then, give, stop, next, seq, when}
+use Rattle.letters.specs.Kinds.{number, same_kind}
+use Rattle.grammar.specs.Parsers.{look_in, is_a, Ans, done, P, then, give, stop, next, seq, when}
 use Rattle.grammar.specs.Trees.{look_of}
 use Rattle.grammar.specs.Held.{OnOk, Held, look, sheet, Lasts, Taken, Any, Comes, Told, Went, Bumped}
 
@@ -88,8 +88,8 @@ unfolding seq
 then_ok {x} {q} w v = seq-ok {p = λ _. give x} (λ f _. q f) w v
 
 -- a kind but the end's stands inside the tokens
-pub inside : (ts : List Token) (e i : ℕ) (k : Kind) → is_a k (lookIn ts e i) ≡ true → (number k ≡ number End → ⊥) → i < length ts
-unfolding sameKind
+pub inside : (ts : List Token) (e i : ℕ) (k : Kind) → is_a k (look_in ts e i) ≡ true → (number k ≡ number End → ⊥) → i < length ts
+unfolding same_kind
 inside ts e i k q h = go (dec_lt i (length ts))
   where
     go : Dec (i < length ts) → i < length ts

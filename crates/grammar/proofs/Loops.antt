@@ -2,7 +2,7 @@
 use Rattle.std.proofs.Common.{◌≡◌, ℕ, suc, ◌≤◌, Bool, true, false, Ok, Err, Result, sym, refl, arith}
 use Rattle.letters.specs.declared.token.Token.{Token}
 use Rattle.grammar.specs.Parsers.{P, next, turn, chain}
-use Rattle.grammar.specs.Held.{Held, look, tokenCount, Taken, Went}
+use Rattle.grammar.specs.Held.{Held, look, token_count, Taken, Went}
 use Rattle.grammar.proofs.Laws.{fuelled, on-yes, on-no, seq-ok, seq-err, gives}
 
 -- the value so far, and that what comes of it comes of the first
@@ -12,7 +12,7 @@ pub record Now {A X : Type 0} (R : Held → A → X → Type 0) (rest : ℕ → 
   pub on : (r : Result A ℕ) (s' : Held) → Went R r (λ f. rest f val) s s' → Went R r (λ f. rest f x0) s0 s'
 
 pub record Ran {A X : Type 0} (K : Held → Held → Type 0) (R : Held → A → X → Type 0) (rest : ℕ → X → P X) (a0 a : A) (s0 s : Held) : Type 0 where
-  pub size : tokenCount s ≡ tokenCount s0
+  pub size : token_count s ≡ token_count s0
   pub ahead : s0.at ≤ s.at
   pub paid : K s0 s
   pub so : (x0 : X) → R s0 a0 x0 → Now R rest x0 a s0 s
@@ -29,7 +29,7 @@ unfolding chain
 chain-chained b step = record { by = λ f x. refl }
 
 module _ {A X : Type 0} {K : Held → Held → Type 0} {R : Held → A → X → Type 0} {b : Token → Bool} {step : ℕ → X → Token → P X} {rest : ℕ → X → P X} (ch : Chained b step rest) {a0 a : A} {s0 s : Held} where
-  pub turn_on : {a' : A} {s1 s2 : Held} {t : ℕ} → Ran K R rest a0 a s0 s → true ≡ b (look s s.at) → (w : Went Taken (Ok t) (λ _. next) s s1) → ((x : X) → R s a x → Went R (Ok a') (λ f. step f x w.told.val) s1 s2) → K s0 s2 → tokenCount s2 ≡ tokenCount s0 → s0.at ≤ s2.at → Ran K R rest a0 a' s0 s2
+  pub turn_on : {a' : A} {s1 s2 : Held} {t : ℕ} → Ran K R rest a0 a s0 s → true ≡ b (look s s.at) → (w : Went Taken (Ok t) (λ _. next) s s1) → ((x : X) → R s a x → Went R (Ok a') (λ f. step f x w.told.val) s1 s2) → K s0 s2 → token_count s2 ≡ token_count s0 → s0.at ≤ s2.at → Ran K R rest a0 a' s0 s2
   turn_on i e w v k size ahead = record {
     size = size;
     ahead = ahead;

@@ -5,7 +5,7 @@ use Rattle.grammar.specs.declared.node.Node.{Node}
 use Rattle.grammar.specs.declared.node.Node.TheVariants.{NoArgs}
 use Rattle.grammar.specs.Raw.{Expr, Args, none}
 use Rattle.grammar.specs.Parsers.{done, give}
-use Rattle.grammar.specs.Trees.{Part, look_of, grownExpr, grownArgs, partIn, rawAt, ruleIn}
+use Rattle.grammar.specs.Trees.{Part, look_of, grown_expr, grown_args, part_in, raw_at, rule_in}
 use Rattle.grammar.specs.Held.{Held, look, sheet, Lasts, Taken, Stands, ArgsStand, Went, Pushed}
 use Rattle.grammar.proofs.Parts.{kept, made, rules-made}
 
@@ -18,8 +18,8 @@ keep-token {a} h g = record { reads = same-token h a ∙ g.reads }
 long : {s s' : Held} → (h : Lasts s s') → {p : ℕ} → p < length s.nodes → p < length (s.nodes ++ h.added.0)
 long {s} h l = omega (arith, length-append s.nodes h.added.0)
 
-part-kept : {s s' : Held} → (h : Lasts s s') → (p : ℕ) → p < length s.nodes → partIn s'.source (length s'.nodes) s'.nodes p ≡ partIn s.source (length s.nodes) s.nodes p
-part-kept {s} h p l = ap₂ (λ c ns. partIn c (length ns) ns p) h.same h.added.1 ∙ kept s.source s.nodes h.added.0 p l (long h l)
+part-kept : {s s' : Held} → (h : Lasts s s') → (p : ℕ) → p < length s.nodes → part_in s'.source (length s'.nodes) s'.nodes p ≡ part_in s.source (length s.nodes) s.nodes p
+part-kept {s} h p l = ap₂ (λ c ns. part_in c (length ns) ns p) h.same h.added.1 ∙ kept s.source s.nodes h.added.0 p l (long h l)
 
 below-kept : {s s' : Held} → (h : Lasts s s') → {p : ℕ} → p < length s.nodes → p < length s'.nodes
 below-kept h l = let e = ap length h.added.1 in let k = long h l in omega arith
@@ -30,17 +30,17 @@ keep {p} h g = record { below = below-kept h g.below; reads = ap (λ (x : Part).
 pub keep-args : {s s' : Held} {p : ℕ} {xs : Args} → Lasts s s' → ArgsStand s p xs → ArgsStand s' p xs
 keep-args {p} h g = record { below = below-kept h g.below; reads = ap (λ (x : Part). x.args) (part-kept h p g.below) ∙ g.reads }
 
-pushed-part : {p : ℕ} {n : Node} {s s' : Held} → Pushed p n s s' → partIn s'.source (length s'.nodes) s'.nodes p ≡ record { expr = grownExpr s.source (partIn s.source (length s.nodes) s.nodes) n; args = grownArgs (partIn s.source (length s.nodes) s.nodes) n }
-pushed-part {p} {n} {s} {s'} h = (λ i. partIn (h.same i) (length (h.nodes i)) (h.nodes i) (h.here i)) ∙ made s.source s.nodes n
+pushed-part : {p : ℕ} {n : Node} {s s' : Held} → Pushed p n s s' → part_in s'.source (length s'.nodes) s'.nodes p ≡ record { expr = grown_expr s.source (part_in s.source (length s.nodes) s.nodes) n; args = grown_args (part_in s.source (length s.nodes) s.nodes) n }
+pushed-part {p} {n} {s} {s'} h = (λ i. part_in (h.same i) (length (h.nodes i)) (h.nodes i) (h.here i)) ∙ made s.source s.nodes n
 
-pub pushed-rules : {p : ℕ} {n : Node} {s s' : Held} → Pushed p n s s' → sheet s' ≡ sheet s ++ ruleIn s.source (rawAt s.source (length s.nodes) s.nodes) (Some n)
+pub pushed-rules : {p : ℕ} {n : Node} {s s' : Held} → Pushed p n s s' → sheet s' ≡ sheet s ++ rule_in s.source (raw_at s.source (length s.nodes) s.nodes) (Some n)
 pushed-rules {n} {s} {s'} h = ap₂ (λ c ns. sheet (record { source = c; at = 0; nodes = ns; lender = 0 })) h.same h.nodes ∙ rules-made s.source s.nodes n
 
-pub pushed-lasts : {p : ℕ} {n : Node} {s s' : Held} → Pushed p n s s' → ruleIn s.source (rawAt s.source (length s.nodes) s.nodes) (Some n) ≡ [] → Lasts s s'
+pub pushed-lasts : {p : ℕ} {n : Node} {s s' : Held} → Pushed p n s s' → rule_in s.source (raw_at s.source (length s.nodes) s.nodes) (Some n) ≡ [] → Lasts s s'
 pushed-lasts {p} {n} {s} h e = record { same = h.same; added = (n ∷ [], h.nodes); rules = pushed-rules h ∙ ap (λ rs. sheet s ++ rs) e ∙ append-nil (sheet s) }
 
 -- an expression's node, no rule's
-pub pushes : {e : Expr} {p : ℕ} {n : Node} {s s' : Held} → Pushed p n s s' → ruleIn s.source (rawAt s.source (length s.nodes) s.nodes) (Some n) ≡ [] → grownExpr s.source (partIn s.source (length s.nodes) s.nodes) n ≡ e → Went Stands (Ok p) (λ _. give e) s s'
+pub pushes : {e : Expr} {p : ℕ} {n : Node} {s s' : Held} → Pushed p n s s' → rule_in s.source (raw_at s.source (length s.nodes) s.nodes) (Some n) ≡ [] → grown_expr s.source (part_in s.source (length s.nodes) s.nodes) n ≡ e → Went Stands (Ok p) (λ _. give e) s s'
 pushes {e} h plain q = record {
   lender = h.lender;
   size = h.size;
@@ -53,7 +53,7 @@ pushes {e} h plain q = record {
   };
 }
 
-pub pushes-args : {xs : Args} {p : ℕ} {n : Node} {s s' : Held} → Pushed p n s s' → ruleIn s.source (rawAt s.source (length s.nodes) s.nodes) (Some n) ≡ [] → grownArgs (partIn s.source (length s.nodes) s.nodes) n ≡ xs → Went ArgsStand (Ok p) (λ _. give xs) s s'
+pub pushes-args : {xs : Args} {p : ℕ} {n : Node} {s s' : Held} → Pushed p n s s' → rule_in s.source (raw_at s.source (length s.nodes) s.nodes) (Some n) ≡ [] → grown_args (part_in s.source (length s.nodes) s.nodes) n ≡ xs → Went ArgsStand (Ok p) (λ _. give xs) s s'
 pushes-args {xs} h plain q = record {
   lender = h.lender;
   size = h.size;

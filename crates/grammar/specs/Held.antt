@@ -5,7 +5,7 @@ use Rattle.grammar.specs.declared.node.Node.{Node}
 use Rattle.grammar.specs.declared.parser.Parser.{Parser}
 use Rattle.grammar.specs.Raw.{Expr, Args, Rule, Sheet}
 use Rattle.grammar.specs.Parsers.{Look, Ans, done, fault, P}
-use Rattle.grammar.specs.Trees.{Source, look_of, rawAt, argsAt, ruleIn, rulesTo}
+use Rattle.grammar.specs.Trees.{Source, look_of, raw_at, args_at, rule_in, rules_to}
 
 pub record Held : Type 0 where
   pub source : Source
@@ -20,12 +20,12 @@ held p = record { source = record { tokens = p.tokens.now; end = p.end }; at = p
 abbrev pub look : Held → Look
 look s = look_of s.source
 
-abbrev pub tokenCount : Held → ℕ
-tokenCount s = length s.source.tokens
+abbrev pub token_count : Held → ℕ
+token_count s = length s.source.tokens
 
 -- the rules among the nodes
 abbrev pub sheet : Held → Sheet
-sheet s = rulesTo s.source (length s.nodes) s.nodes
+sheet s = rules_to s.source (length s.nodes) s.nodes
 
 -- the same text; nodes were added, and no rule among them
 pub record Lasts (s s' : Held) : Type 0 where
@@ -39,14 +39,14 @@ pub record Taken (s : Held) (a : ℕ) (t : Token) : Type 0 where
 
 pub record Stands (s : Held) (p : ℕ) (e : Expr) : Type 0 where
   pub below : p < length s.nodes
-  pub reads : rawAt s.source (length s.nodes) s.nodes p ≡ e
+  pub reads : raw_at s.source (length s.nodes) s.nodes p ≡ e
 
 pub record ArgsStand (s : Held) (p : ℕ) (xs : Args) : Type 0 where
   pub below : p < length s.nodes
-  pub reads : argsAt s.source (length s.nodes) s.nodes p ≡ xs
+  pub reads : args_at s.source (length s.nodes) s.nodes p ≡ xs
 
 abbrev pub RuleStands : Held → Node → Rule → Type 0
-RuleStands s n r = ruleIn s.source (rawAt s.source (length s.nodes) s.nodes) (Some n) ≡ r ∷ []
+RuleStands s n r = rule_in s.source (raw_at s.source (length s.nodes) s.nodes) (Some n) ≡ r ∷ []
 
 abbrev pub Any : {A X : Type 0} → Held → A → X → Type 0
 Any s a x = Unit {0}
@@ -74,13 +74,13 @@ Told R (Err w) p s s' = Failed w p s
 -- a step of the code does what the parser p says
 pub record Went {A X : Type 0} (R : Held → A → X → Type 0) (r : Result A ℕ) (p : ℕ → P X) (s s' : Held) : Type 0 where
   pub lender : s'.lender ≡ s.lender
-  pub size : tokenCount s' ≡ tokenCount s
+  pub size : token_count s' ≡ token_count s
   pub ahead : s.at ≤ s'.at
   pub told : Told R r p s s'
 
 -- on in the same text
 pub record Moved (s s' : Held) : Type 0 where
-  pub size : tokenCount s' ≡ tokenCount s
+  pub size : token_count s' ≡ token_count s
   pub ahead : s.at ≤ s'.at
 
 -- no more nodes were made than tokens passed
@@ -103,17 +103,17 @@ OnOk (Err w) K = Unit {0}
 pub record Bumped (s s' : Held) : Type 0 where
   pub lender : s'.lender ≡ s.lender
   pub same : s'.source ≡ s.source
-  pub size : tokenCount s' ≡ tokenCount s
+  pub size : token_count s' ≡ token_count s
   pub nodes : s'.nodes ≡ s.nodes
   pub count : length s'.nodes ≡ length s.nodes
   pub at : s'.at ≡ suc s.at
-  pub inside : s.at < tokenCount s
+  pub inside : s.at < token_count s
 
 -- one more node
 pub record Pushed (p : ℕ) (n : Node) (s s' : Held) : Type 0 where
   pub lender : s'.lender ≡ s.lender
   pub same : s'.source ≡ s.source
-  pub size : tokenCount s' ≡ tokenCount s
+  pub size : token_count s' ≡ token_count s
   pub at : s'.at ≡ s.at
   pub nodes : s'.nodes ≡ s.nodes ++ n ∷ []
   pub count : length s'.nodes ≡ suc (length s.nodes)

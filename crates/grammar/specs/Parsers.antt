@@ -3,19 +3,19 @@ use Rattle.std.specs.Prelude.{ℕ, zero, suc, Bool, cond, List, slice_index_or}
 use Rattle.letters.specs.declared.kind.Kind.{Kind}
 use Rattle.letters.specs.declared.kind.Kind.TheVariants.{End}
 use Rattle.letters.specs.declared.token.Token.{Token}
-use Rattle.letters.specs.Kinds.{sameKind}
-use Rattle.letters.specs.Tokens.{tokenOf}
+use Rattle.letters.specs.Kinds.{same_kind}
+use Rattle.letters.specs.Tokens.{token_of}
 
 -- the tokens by position
 abbrev pub Look : Type 0
 Look = ℕ → Token
 
 -- past the last token stands one at the text's end
-abbrev pub lookIn : List Token → ℕ → Look
-lookIn ts e i = slice_index_or ts i (tokenOf End e 0 0)
+abbrev pub look_in : List Token → ℕ → Look
+look_in ts e i = slice_index_or ts i (token_of End e 0 0)
 
 abbrev pub is_a : Kind → Token → Bool
-is_a k t = sameKind t.kind k
+is_a k t = same_kind t.kind k
 
 -- a value and the position after it, or the position of the first token that does not fit; spent, where the fuel was not enough
 pub data Ans (X : Type 0) : Type 0 where

@@ -7,5 +7,5 @@ use Rattle.grammar.specs.declared.piece.ParamRead.{ParamRead}
 abbrev pub item_of : Bool → ItemRead → Item
 item_of m r = record { minus = m; factor = r.factor; atom = r.atom }
 
-abbrev pub paramOf : ParamRead → Param
-paramOf r = record { name = r.name; length = r.length }
+abbrev pub param_of : ParamRead → Param
+param_of r = record { name = r.name; length = r.length }

@@ -3,13 +3,13 @@ use Rattle.std.specs.Prelude.{ℕ, zero, suc, cond, List, [], ◌∷◌, ◌++�
 use Rattle.std.specs.List.{slice_get}
 use Rattle.letters.specs.declared.kind.Kind.TheVariants.{End, Needs, Gives}
 use Rattle.letters.specs.declared.token.Token.{Token}
-use Rattle.letters.specs.Tokens.{tokenOf}
+use Rattle.letters.specs.Tokens.{token_of}
 use Rattle.grammar.specs.declared.node.Node.{Node}
 use Rattle.grammar.specs.declared.node.Node.TheVariants.{Blank, Num, Name, Calc, Read, Call, Bind, Test, Put, Claim, Nest, NoArgs, Arg, Rule}
 use Rattle.grammar.specs.Raw.{Expr, Args, num, name, calc, read, call, bind, test, put, claim, nest, none, more, Sheet}
-use Rattle.grammar.specs.Parsers.{Look, lookIn}
-use Rattle.grammar.specs.Sheets.{ruleOf}
-use Rattle.grammar.specs.Stretches.{conditionsAt, optionalAt, params_at}
+use Rattle.grammar.specs.Parsers.{Look, look_in}
+use Rattle.grammar.specs.Sheets.{rule_of}
+use Rattle.grammar.specs.Stretches.{conditions_at, optional_at, params_at}
 
 -- the tokens of a text, and its length
 pub record Source : Type 0 where
@@ -17,7 +17,7 @@ pub record Source : Type 0 where
   pub end : ℕ
 
 abbrev pub look_of : Source → Look
-look_of s = lookIn s.tokens s.end
+look_of s = look_in s.tokens s.end
 
 -- what a node is read as: an expression, or arguments
 pub record Part : Type 0 where
@@ -25,47 +25,47 @@ pub record Part : Type 0 where
   pub args : Args
 
 -- what no expression stands for is read as the numeral of no token
-abbrev pub noExpr : Expr
-noExpr = num (tokenOf End 0 0 0)
+abbrev pub no_expr : Expr
+no_expr = num (token_of End 0 0 0)
 
 abbrev pub no_part : Part
-no_part = record { expr = noExpr; args = none }
+no_part = record { expr = no_expr; args = none }
 
-abbrev pub grownExpr : Source → (ℕ → Part) → Node → Expr
-grownExpr s part Blank = noExpr
-grownExpr s part (Num t) = num (look_of s t)
-grownExpr s part (Name t) = name (look_of s t)
-grownExpr s part (Calc t a b) = calc (look_of s t) (part a).expr (part b).expr
-grownExpr s part (Read t a) = read (look_of s t) (part a).expr
-grownExpr s part (Call t xs) = call (look_of s t) (part xs).args
-grownExpr s part (Bind t n a b) = bind (look_of s t) (look_of s n) (part a).expr (part b).expr
-grownExpr s part (Test t c a b d e) = test (look_of s t) (look_of s c) (part a).expr (part b).expr (part d).expr (part e).expr
-grownExpr s part (Put t n a b c) = put (look_of s t) (look_of s n) (part a).expr (part b).expr (part c).expr
-grownExpr s part (Claim t c a) = claim (look_of s t) (part a).expr (conditionsAt (length s.tokens) (look_of s) c).value
-grownExpr s part (Nest t a) = nest (look_of s t) (part a).expr
-grownExpr s part NoArgs = noExpr
-grownExpr s part (Arg xs a) = noExpr
-grownExpr s part (Rule t m ps n g b) = noExpr
+abbrev pub grown_expr : Source → (ℕ → Part) → Node → Expr
+grown_expr s part Blank = no_expr
+grown_expr s part (Num t) = num (look_of s t)
+grown_expr s part (Name t) = name (look_of s t)
+grown_expr s part (Calc t a b) = calc (look_of s t) (part a).expr (part b).expr
+grown_expr s part (Read t a) = read (look_of s t) (part a).expr
+grown_expr s part (Call t xs) = call (look_of s t) (part xs).args
+grown_expr s part (Bind t n a b) = bind (look_of s t) (look_of s n) (part a).expr (part b).expr
+grown_expr s part (Test t c a b d e) = test (look_of s t) (look_of s c) (part a).expr (part b).expr (part d).expr (part e).expr
+grown_expr s part (Put t n a b c) = put (look_of s t) (look_of s n) (part a).expr (part b).expr (part c).expr
+grown_expr s part (Claim t c a) = claim (look_of s t) (part a).expr (conditions_at (length s.tokens) (look_of s) c).value
+grown_expr s part (Nest t a) = nest (look_of s t) (part a).expr
+grown_expr s part NoArgs = no_expr
+grown_expr s part (Arg xs a) = no_expr
+grown_expr s part (Rule t m ps n g b) = no_expr
 
-abbrev pub grownArgs : (ℕ → Part) → Node → Args
-grownArgs part Blank = none
-grownArgs part (Num t) = none
-grownArgs part (Name t) = none
-grownArgs part (Calc t a b) = none
-grownArgs part (Read t a) = none
-grownArgs part (Call t xs) = none
-grownArgs part (Bind t n a b) = none
-grownArgs part (Test t c a b d e) = none
-grownArgs part (Put t n a b c) = none
-grownArgs part (Claim t c a) = none
-grownArgs part (Nest t a) = none
-grownArgs part NoArgs = none
-grownArgs part (Arg xs a) = more (part xs).args (part a).expr
-grownArgs part (Rule t m ps n g b) = none
+abbrev pub grown_args : (ℕ → Part) → Node → Args
+grown_args part Blank = none
+grown_args part (Num t) = none
+grown_args part (Name t) = none
+grown_args part (Calc t a b) = none
+grown_args part (Read t a) = none
+grown_args part (Call t xs) = none
+grown_args part (Bind t n a b) = none
+grown_args part (Test t c a b d e) = none
+grown_args part (Put t n a b c) = none
+grown_args part (Claim t c a) = none
+grown_args part (Nest t a) = none
+grown_args part NoArgs = none
+grown_args part (Arg xs a) = more (part xs).args (part a).expr
+grown_args part (Rule t m ps n g b) = none
 
 abbrev pub grown : Source → (ℕ → Part) → Option Node → Part
 grown s part None = no_part
-grown s part (Some node) = record { expr = grownExpr s part node; args = grownArgs part node }
+grown s part (Some node) = record { expr = grown_expr s part node; args = grown_args part node }
 
 -- the node at a position, with at most so many nodes on a way down
 unfoldable pub fuelled : Source → ℕ → List Node → ℕ → Part
@@ -73,38 +73,38 @@ fuelled s zero ns p = no_part
 fuelled s (suc f) ns p = grown s (λ q. cond (nat_lt q p) (fuelled s f ns q) no_part) (slice_get ns p)
 
 -- the node at a position below top
-unfoldable pub partIn : Source → ℕ → List Node → ℕ → Part
-partIn s top ns p = cond (nat_lt p top) (fuelled s (suc p) ns p) no_part
+unfoldable pub part_in : Source → ℕ → List Node → ℕ → Part
+part_in s top ns p = cond (nat_lt p top) (fuelled s (suc p) ns p) no_part
 
 -- the expression at a position below top
-abbrev pub rawAt : Source → ℕ → List Node → ℕ → Expr
-rawAt s top ns p = (partIn s top ns p).expr
+abbrev pub raw_at : Source → ℕ → List Node → ℕ → Expr
+raw_at s top ns p = (part_in s top ns p).expr
 
 -- the arguments at a position below top
-abbrev pub argsAt : Source → ℕ → List Node → ℕ → Args
-argsAt s top ns p = (partIn s top ns p).args
+abbrev pub args_at : Source → ℕ → List Node → ℕ → Args
+args_at s top ns p = (part_in s top ns p).args
 
 -- the rule of a node, its body given
-abbrev pub ruleIn : Source → (ℕ → Expr) → Option Node → Sheet
-ruleIn s body None = []
-ruleIn s body (Some Blank) = []
-ruleIn s body (Some (Num t)) = []
-ruleIn s body (Some (Name t)) = []
-ruleIn s body (Some (Calc t a b)) = []
-ruleIn s body (Some (Read t a)) = []
-ruleIn s body (Some (Call t xs)) = []
-ruleIn s body (Some (Bind t n a b)) = []
-ruleIn s body (Some (Test t c a b d e)) = []
-ruleIn s body (Some (Put t n a b c)) = []
-ruleIn s body (Some (Claim t c a)) = []
-ruleIn s body (Some (Nest t a)) = []
-ruleIn s body (Some NoArgs) = []
-ruleIn s body (Some (Arg xs a)) = []
-ruleIn s body (Some (Rule t m ps n g b)) =
-    ruleOf (look_of s t) (look_of s m) (params_at (length s.tokens) (look_of s) ps)
-    (optionalAt (length s.tokens) (look_of s) Needs n) (optionalAt (length s.tokens) (look_of s) Gives g) (body b) ∷ []
+abbrev pub rule_in : Source → (ℕ → Expr) → Option Node → Sheet
+rule_in s body None = []
+rule_in s body (Some Blank) = []
+rule_in s body (Some (Num t)) = []
+rule_in s body (Some (Name t)) = []
+rule_in s body (Some (Calc t a b)) = []
+rule_in s body (Some (Read t a)) = []
+rule_in s body (Some (Call t xs)) = []
+rule_in s body (Some (Bind t n a b)) = []
+rule_in s body (Some (Test t c a b d e)) = []
+rule_in s body (Some (Put t n a b c)) = []
+rule_in s body (Some (Claim t c a)) = []
+rule_in s body (Some (Nest t a)) = []
+rule_in s body (Some NoArgs) = []
+rule_in s body (Some (Arg xs a)) = []
+rule_in s body (Some (Rule t m ps n g b)) =
+    rule_of (look_of s t) (look_of s m) (params_at (length s.tokens) (look_of s) ps)
+    (optional_at (length s.tokens) (look_of s) Needs n) (optional_at (length s.tokens) (look_of s) Gives g) (body b) ∷ []
 
 -- the rules among the nodes below a position, in their order
-unfoldable pub rulesTo : Source → ℕ → List Node → Sheet
-rulesTo s zero ns = []
-rulesTo s (suc k) ns = rulesTo s k ns ++ ruleIn s (rawAt s k ns) (slice_get ns k)
+unfoldable pub rules_to : Source → ℕ → List Node → Sheet
+rules_to s zero ns = []
+rules_to s (suc k) ns = rules_to s k ns ++ rule_in s (raw_at s k ns) (slice_get ns k)

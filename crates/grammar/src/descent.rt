@@ -1,6 +1,6 @@
 // Expressions, by recursive descent. Each makes its node after its parts and gives its position.
 ghost use Rattle.std.specs.Prelude.{suc, ◌<◌, true, length};
-ghost use Rattle.grammar.specs.Sheets.{exprS, sumS, productS, atomS, argsS, nameBy, bracketBy, letBy, ifBy, putBy, argOn, conditionsS};
+ghost use Rattle.grammar.specs.Sheets.{expr_s, sum_s, product_s, atom_s, args_s, name_by, bracket_by, let_by, if_by, put_by, arg_on, conditions_s};
 ghost use Rattle.grammar.specs.Raw.{Args};
 ghost use Rattle.grammar.specs.Held.{held, look, Went, Stands, ArgsStand, Moved, Paid, Owed, OwedTwo, OnOk};
 
@@ -11,7 +11,7 @@ use letters::Kind;
 impl Parser<'_, '_> {
     #[cycle(args_argument_atom_binding_bracket_choice_expr_named_product_putting_sum)]
     pub fn expr(&mut self) -> Result<usize, usize>
-        ensures went { Went Stands result exprS (held self.old) (held self.new) }
+        ensures went { Went Stands result expr_s (held self.old) (held self.new) }
         ensures paid { Paid (held self.old) (held self.new) }
     {
         if self.sees(Kind::Let) {
@@ -31,7 +31,7 @@ impl Parser<'_, '_> {
     // What follows `let`.
     #[cycle(args_argument_atom_binding_bracket_choice_expr_named_product_putting_sum)]
     fn binding(&mut self, token: usize) -> Result<usize, usize>
-        ensures went { Went Stands result (λ f. letBy (exprS f) (look (held self.old) token)) (held self.old) (held self.new) }
+        ensures went { Went Stands result (λ f. let_by (expr_s f) (look (held self.old) token)) (held self.old) (held self.new) }
         ensures paid { Paid (held self.old) (held self.new) }
     {
         let name = self.take(Kind::Name)?;
@@ -45,7 +45,7 @@ impl Parser<'_, '_> {
     // What follows `if`.
     #[cycle(args_argument_atom_binding_bracket_choice_expr_named_product_putting_sum)]
     fn choice(&mut self, token: usize) -> Result<usize, usize>
-        ensures went { Went Stands result (λ f. ifBy (sumS f) (exprS f) (look (held self.old) token)) (held self.old) (held self.new) }
+        ensures went { Went Stands result (λ f. if_by (sum_s f) (expr_s f) (look (held self.old) token)) (held self.old) (held self.new) }
         ensures paid { Paid (held self.old) (held self.new) }
     {
         let left = self.sum()?;
@@ -61,7 +61,7 @@ impl Parser<'_, '_> {
     // What follows `put`.
     #[cycle(args_argument_atom_binding_bracket_choice_expr_named_product_putting_sum)]
     fn putting(&mut self, token: usize) -> Result<usize, usize>
-        ensures went { Went Stands result (λ f. putBy (sumS f) (exprS f) (look (held self.old) token)) (held self.old) (held self.new) }
+        ensures went { Went Stands result (λ f. put_by (sum_s f) (expr_s f) (look (held self.old) token)) (held self.old) (held self.new) }
         ensures paid { Paid (held self.old) (held self.new) }
     {
         let name = self.take(Kind::Name)?;
@@ -77,7 +77,7 @@ impl Parser<'_, '_> {
 
     #[cycle(args_argument_atom_binding_bracket_choice_expr_named_product_putting_sum)]
     fn sum(&mut self) -> Result<usize, usize>
-        ensures went { Went Stands result sumS (held self.old) (held self.new) }
+        ensures went { Went Stands result sum_s (held self.old) (held self.new) }
         ensures paid { Paid (held self.old) (held self.new) }
     {
         let mut left = self.product()?;
@@ -91,7 +91,7 @@ impl Parser<'_, '_> {
 
     #[cycle(args_argument_atom_binding_bracket_choice_expr_named_product_putting_sum)]
     fn product(&mut self) -> Result<usize, usize>
-        ensures went { Went Stands result productS (held self.old) (held self.new) }
+        ensures went { Went Stands result product_s (held self.old) (held self.new) }
         ensures paid { Paid (held self.old) (held self.new) }
     {
         let mut left = self.atom()?;
@@ -105,7 +105,7 @@ impl Parser<'_, '_> {
 
     #[cycle(args_argument_atom_binding_bracket_choice_expr_named_product_putting_sum)]
     fn atom(&mut self) -> Result<usize, usize>
-        ensures went { Went Stands result atomS (held self.old) (held self.new) }
+        ensures went { Went Stands result atom_s (held self.old) (held self.new) }
         ensures paid { Paid (held self.old) (held self.new) }
     {
         if self.sees(Kind::Numeral) {
@@ -126,7 +126,7 @@ impl Parser<'_, '_> {
     #[cycle(args_argument_atom_binding_bracket_choice_expr_named_product_putting_sum)]
     fn named(&mut self, token: usize) -> Result<usize, usize>
         requires { length (held self.old).nodes < (held self.old).at }
-        ensures went { Went Stands result (λ f. nameBy (sumS f) (argsS f) (look (held self.old) token)) (held self.old) (held self.new) }
+        ensures went { Went Stands result (λ f. name_by (sum_s f) (args_s f) (look (held self.old) token)) (held self.old) (held self.new) }
         ensures paid { Owed (held self.old) (held self.new) }
     {
         if self.sees(Kind::OpenSquare) {
@@ -146,7 +146,7 @@ impl Parser<'_, '_> {
     // What a bracket begins, which was passed: an expression, or one with conditions that it is to meet.
     #[cycle(args_argument_atom_binding_bracket_choice_expr_named_product_putting_sum)]
     fn bracket(&mut self, token: usize) -> Result<usize, usize>
-        ensures went { Went Stands result (λ f. bracketBy (exprS f) (conditionsS true f) (look (held self.old) token)) (held self.old) (held self.new) }
+        ensures went { Went Stands result (λ f. bracket_by (expr_s f) (conditions_s true f) (look (held self.old) token)) (held self.old) (held self.new) }
         ensures paid { Paid (held self.old) (held self.new) }
     {
         let inner = self.expr()?;
@@ -166,7 +166,7 @@ impl Parser<'_, '_> {
     #[cycle(args_argument_atom_binding_bracket_choice_expr_named_product_putting_sum)]
     fn args(&mut self) -> Result<usize, usize>
         requires { suc (length (held self.old).nodes) < (held self.old).at }
-        ensures went { Went ArgsStand result argsS (held self.old) (held self.new) }
+        ensures went { Went ArgsStand result args_s (held self.old) (held self.new) }
         ensures paid { OwedTwo (held self.old) (held self.new) }
         ensures settled { OnOk result (Owed (held self.old) (held self.new)) }
     {
@@ -188,7 +188,7 @@ impl Parser<'_, '_> {
     #[cycle(args_argument_atom_binding_bracket_choice_expr_named_product_putting_sum)]
     fn argument(&mut self, before: usize) -> Result<usize, usize>
         requires { length (held self.old).nodes < (held self.old).at }
-        ensures went { (xs : Args) → ArgsStand (held self.old) before xs → Went ArgsStand result (λ f. argOn (sumS f) xs) (held self.old) (held self.new) }
+        ensures went { (xs : Args) → ArgsStand (held self.old) before xs → Went ArgsStand result (λ f. arg_on (sum_s f) xs) (held self.old) (held self.new) }
         ensures moved { Moved (held self.old) (held self.new) }
         ensures paid { Owed (held self.old) (held self.new) }
     {

@@ -2,9 +2,9 @@
 ghost use Rattle.std.specs.Prelude.{◌≡◌, ◌<◌, Bool, true, false, ◌≢◌};
 ghost use Rattle.letters.specs.Kinds.{number};
 ghost use Rattle.grammar.specs.Parsers.{wanted};
-ghost use Rattle.grammar.specs.Sheets.{itemS, sideS, conditionS, conditionsS, optionalS, paramS, paramsS};
+ghost use Rattle.grammar.specs.Sheets.{item_s, side_s, condition_s, conditions_s, optional_s, param_s, params_s};
 ghost use Rattle.grammar.specs.Sheets.{quantity as stood};
-ghost use Rattle.grammar.specs.Held.{held, look, tokenCount, Went, Any, SameCount};
+ghost use Rattle.grammar.specs.Held.{held, look, token_count, Went, Any, SameCount};
 
 use crate::parser::Parser;
 use letters::Kind;
@@ -13,7 +13,7 @@ impl Parser<'_, '_> {
     // The token at hand is a name or, where that may stand, `result`.
     fn sees_quantity(&self, res: bool) -> bool
         ensures told { result ≡ stood res (look (held self.now) (held self.now).at) }
-        ensures inside { result ≡ true → (held self.now).at < tokenCount (held self.now) }
+        ensures inside { result ≡ true → (held self.now).at < token_count (held self.now) }
     {
         if self.sees(Kind::Name) {
             true
@@ -38,7 +38,7 @@ impl Parser<'_, '_> {
 
     // An item, whether a minus stands before it or not.
     fn item(&mut self, res: bool) -> Result<(), usize>
-        ensures went { (m : Bool) → Went Any result (λ _. itemS res m) (held self.old) (held self.new) }
+        ensures went { (m : Bool) → Went Any result (λ _. item_s res m) (held self.old) (held self.new) }
         ensures count { SameCount (held self.old) (held self.new) }
     {
         if self.sees(Kind::Numeral) {
@@ -55,7 +55,7 @@ impl Parser<'_, '_> {
     }
 
     fn side(&mut self, res: bool) -> Result<(), usize>
-        ensures went { Went Any result (sideS res) (held self.old) (held self.new) }
+        ensures went { Went Any result (side_s res) (held self.old) (held self.new) }
         ensures count { SameCount (held self.old) (held self.new) }
     {
         self.item(res)?;
@@ -67,7 +67,7 @@ impl Parser<'_, '_> {
     }
 
     fn condition(&mut self, res: bool) -> Result<(), usize>
-        ensures went { Went Any result (conditionS res) (held self.old) (held self.new) }
+        ensures went { Went Any result (condition_s res) (held self.old) (held self.new) }
         ensures count { SameCount (held self.old) (held self.new) }
     {
         self.side(res)?;
@@ -76,7 +76,7 @@ impl Parser<'_, '_> {
     }
 
     pub(crate) fn conditions(&mut self, res: bool) -> Result<(), usize>
-        ensures went { Went Any result (conditionsS res) (held self.old) (held self.new) }
+        ensures went { Went Any result (conditions_s res) (held self.old) (held self.new) }
         ensures count { SameCount (held self.old) (held self.new) }
     {
         self.condition(res)?;
@@ -90,7 +90,7 @@ impl Parser<'_, '_> {
     // Conditions after a keyword, if that stands there.
     pub(crate) fn optional(&mut self, kind: Kind, res: bool) -> Result<(), usize>
         requires { number kind ≢ number Kind.End }
-        ensures went { Went Any result (optionalS kind res) (held self.old) (held self.new) }
+        ensures went { Went Any result (optional_s kind res) (held self.old) (held self.new) }
         ensures count { SameCount (held self.old) (held self.new) }
     {
         if self.sees(kind) {
@@ -102,7 +102,7 @@ impl Parser<'_, '_> {
     }
 
     fn param(&mut self) -> Result<(), usize>
-        ensures went { Went Any result (λ _. paramS) (held self.old) (held self.new) }
+        ensures went { Went Any result (λ _. param_s) (held self.old) (held self.new) }
         ensures count { SameCount (held self.old) (held self.new) }
     {
         self.take(Kind::Name)?;
@@ -118,7 +118,7 @@ impl Parser<'_, '_> {
 
     // The params up to and with their closing bracket.
     pub(crate) fn params(&mut self) -> Result<(), usize>
-        ensures went { Went Any result paramsS (held self.old) (held self.new) }
+        ensures went { Went Any result params_s (held self.old) (held self.new) }
         ensures count { SameCount (held self.old) (held self.new) }
     {
         if self.sees(Kind::Close) {

@@ -1,5 +1,5 @@
 ghost use Rattle.std.specs.Prelude.{◌≡◌, ◌<◌, [], length};
-ghost use Rattle.grammar.specs.Sheets.{ruleS};
+ghost use Rattle.grammar.specs.Sheets.{rule_s};
 ghost use Rattle.grammar.specs.Held.{held, look, Went, RuleStands, Paid};
 ghost use Rattle.grammar.specs.Parsed.{Ruled, Parsed};
 
@@ -11,7 +11,7 @@ use letters::{Kind, Token};
 impl Parser<'_, '_> {
     // The rule whose keyword was passed.
     fn rule(&mut self, token: usize) -> Result<Node, usize>
-        ensures went { Went RuleStands result (ruleS (look (held self.old) token)) (held self.old) (held self.new) }
+        ensures went { Went RuleStands result (rule_s (look (held self.old) token)) (held self.old) (held self.new) }
         ensures paid { Paid (held self.old) (held self.new) }
     {
         let name = self.take(Kind::Name)?;

@@ -1,8 +1,8 @@
 ghost use Rattle.std.specs.Prelude.{◌≡◌, ℕ, suc, ◌<◌, true, length, Ok, Err, ◌≢◌};
 ghost use Rattle.letters.specs.Kinds.{number};
 ghost use Rattle.grammar.specs.Parsers.{is_a, wanted, want};
-ghost use Rattle.grammar.specs.Sheets.{sumSign, compares};
-ghost use Rattle.grammar.specs.Held.{held, look, tokenCount, Went, Taken, Bumped, Pushed, SameCount};
+ghost use Rattle.grammar.specs.Sheets.{sum_sign, compares};
+ghost use Rattle.grammar.specs.Held.{held, look, token_count, Went, Taken, Bumped, Pushed, SameCount};
 
 use crate::node::Node;
 use crate::parser::Parser;
@@ -21,7 +21,7 @@ impl Parser<'_, '_> {
     pub(crate) fn sees(&self, kind: Kind) -> bool
         requires { number kind ≢ number Kind.End }
         ensures told { result ≡ is_a kind (look (held self.now) (held self.now).at) }
-        ensures inside { result ≡ true → (held self.now).at < tokenCount (held self.now) }
+        ensures inside { result ≡ true → (held self.now).at < token_count (held self.now) }
     {
         self.peek().kind.is(kind)
     }
@@ -35,8 +35,8 @@ impl Parser<'_, '_> {
 
     // The token at hand joins the parts of a sum.
     pub(crate) fn sees_sum_sign(&self) -> bool
-        ensures told { result ≡ sumSign (look (held self.now) (held self.now).at) }
-        ensures inside { result ≡ true → (held self.now).at < tokenCount (held self.now) }
+        ensures told { result ≡ sum_sign (look (held self.now) (held self.now).at) }
+        ensures inside { result ≡ true → (held self.now).at < token_count (held self.now) }
     {
         if self.sees(Kind::Plus) {
             true
@@ -48,7 +48,7 @@ impl Parser<'_, '_> {
     // The token at hand compares; `!=` does so only in a test.
     fn sees_comparison(&self, tested: bool) -> bool
         ensures told { result ≡ compares tested (look (held self.now) (held self.now).at) }
-        ensures inside { result ≡ true → (held self.now).at < tokenCount (held self.now) }
+        ensures inside { result ≡ true → (held self.now).at < token_count (held self.now) }
     {
         if self.sees(Kind::Less) {
             true
@@ -65,7 +65,7 @@ impl Parser<'_, '_> {
 
     // Goes past the token at hand, which is not the end, and gives its number.
     pub(crate) fn bump(&mut self) -> usize
-        requires { (held self.old).at < tokenCount (held self.old) }
+        requires { (held self.old).at < token_count (held self.old) }
         ensures token { result ≡ (held self.old).at }
         ensures bumped { Bumped (held self.old) (held self.new) }
     {

@@ -6,8 +6,8 @@ is_zero (pos zero) = true
 is_zero (pos (suc n)) = false
 is_zero (negsuc n) = false
 
-abbrev pub eqZ : ℤ → ℤ → Bool
-eqZ a b = int_le a b && int_le b a
+abbrev pub eq_z : ℤ → ℤ → Bool
+eq_z a b = int_le a b && int_le b a
 
 -- p holds of each number below n
 unfoldable pub all_below : ℕ → (ℕ → Bool) → Bool
@@ -15,11 +15,11 @@ all_below zero p = true
 all_below (suc n) p = all_below n p && p n
 
 -- p holds of some number below n
-unfoldable pub anyBelow : ℕ → (ℕ → Bool) → Bool
-anyBelow zero p = false
-anyBelow (suc n) p = anyBelow n p || p n
+unfoldable pub any_below : ℕ → (ℕ → Bool) → Bool
+any_below zero p = false
+any_below (suc n) p = any_below n p || p n
 
 -- how many numbers below n have p
-unfoldable pub countBelow : ℕ → (ℕ → Bool) → ℕ
-countBelow zero p = 0
-countBelow (suc n) p = cond (p n) (suc (countBelow n p)) (countBelow n p)
+unfoldable pub count_below : ℕ → (ℕ → Bool) → ℕ
+count_below zero p = 0
+count_below (suc n) p = cond (p n) (suc (count_below n p)) (count_below n p)

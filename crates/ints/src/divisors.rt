@@ -1,9 +1,9 @@
 ghost use Rattle.std.specs.Prelude.{◌≡◌, ◌<◌};
-ghost use Rattle.ints.specs.Divisors.{gcdOf, divisor_of};
+ghost use Rattle.ints.specs.Divisors.{gcd_of, divisor_of};
 
 // Euclid's algorithm.
 fn gcd(a: u64, b: u64) -> u64
-    ensures { result ≡ gcdOf a b }
+    ensures { result ≡ gcd_of a b }
 {
     let mut x = a;
     let mut y = b;

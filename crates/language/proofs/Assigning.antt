@@ -7,8 +7,8 @@ use Rattle.std.proofs.lemmas.Bool.{eq-eqb, ne_eqb}
 use Rattle.rows.specs.Meaning.{Assignment, Within}
 use Rattle.language.specs.declared.part.Part.{Part}
 use Rattle.language.specs.declared.term.Term.{Term}
-use Rattle.language.specs.Tree.{Param, a_number, aList, atLists}
-use Rattle.language.specs.Terms.{zeroTerm, quantity, worth}
+use Rattle.language.specs.Tree.{Param, a_number, a_list, at_lists}
+use Rattle.language.specs.Terms.{zero_term, quantity, worth}
 use Rattle.language.specs.Comparing.{at_most}
 use Rattle.language.specs.Running.{in_range, length_of}
 use Rattle.language.proofs.Tests.{both_left, both_right}
@@ -64,30 +64,30 @@ quantities-stable n a zero h i = stable-constant n (pos 0)
 quantities-stable n a (suc k) h zero = stable-more (suc a) n (quantity a) (omega arith) (stable-quantity a)
 quantities-stable n a (suc k) h (suc i) = quantities-stable n (a + 1) k (omega arith) i
 
-pub map-atLists : {A B : Type 0} (f : A → B) (ps : List Param) (xs : List A) → map f (atLists ps xs) ≡ atLists ps (map f xs)
-unfolding atLists
-map-atLists f [] xs = refl
-map-atLists f (p ∷ ps) [] = refl
-map-atLists f (a_number ∷ ps) (x ∷ xs) = map-atLists f ps xs
-map-atLists f (aList ∷ ps) (x ∷ xs) = ap (λ ys. f x ∷ ys) (map-atLists f ps xs)
+pub map-at_lists : {A B : Type 0} (f : A → B) (ps : List Param) (xs : List A) → map f (at_lists ps xs) ≡ at_lists ps (map f xs)
+unfolding at_lists
+map-at_lists f [] xs = refl
+map-at_lists f (p ∷ ps) [] = refl
+map-at_lists f (a_number ∷ ps) (x ∷ xs) = map-at_lists f ps xs
+map-at_lists f (a_list ∷ ps) (x ∷ xs) = ap (λ ys. f x ∷ ys) (map-at_lists f ps xs)
 
-pub atLists-stable : (n : ℕ) (ps : List Param) (ts : List Term) → StableAll n ts → StableAll n (atLists ps ts)
-unfolding atLists
-atLists-stable n [] ts h i = stable-constant n (pos 0)
-atLists-stable n (p ∷ ps) [] h i = stable-constant n (pos 0)
-atLists-stable n (a_number ∷ ps) (t ∷ ts) h i = atLists-stable n ps ts (λ j. h (suc j)) i
-atLists-stable n (aList ∷ ps) (t ∷ ts) h zero = h zero
-atLists-stable n (aList ∷ ps) (t ∷ ts) h (suc i) = atLists-stable n ps ts (λ j. h (suc j)) i
+pub at_lists-stable : (n : ℕ) (ps : List Param) (ts : List Term) → StableAll n ts → StableAll n (at_lists ps ts)
+unfolding at_lists
+at_lists-stable n [] ts h i = stable-constant n (pos 0)
+at_lists-stable n (p ∷ ps) [] h i = stable-constant n (pos 0)
+at_lists-stable n (a_number ∷ ps) (t ∷ ts) h i = at_lists-stable n ps ts (λ j. h (suc j)) i
+at_lists-stable n (a_list ∷ ps) (t ∷ ts) h zero = h zero
+at_lists-stable n (a_list ∷ ps) (t ∷ ts) h (suc i) = at_lists-stable n ps ts (λ j. h (suc j)) i
 
 -- each length is at least 0
-pub lengths-made : (q : Assignment) (ts : List Term) (ps : List Part) → map (worth q) ts ≡ map length_of ps → AllByRecursion (IfMade q) (map (at_most (pos 0) zeroTerm) ts)
+pub lengths-made : (q : Assignment) (ts : List Term) (ps : List Part) → map (worth q) ts ≡ map length_of ps → AllByRecursion (IfMade q) (map (at_most (pos 0) zero_term) ts)
 lengths-made q [] ps e = tt
 lengths-made q (t ∷ ts) [] e = let no : ◌≡◌ {A = ℕ} 0 1 = cc in let bad : ⊥ = omega arith in absurd bad
 lengths-made q (t ∷ ts) (p ∷ ps) e =
     let x : worth q t ≡ length_of p = ap (λ (l : List ℤ). get_or l 0 (pos 0)) e in
     let z = worth-constant q (pos 0) in
-    (λ r m. at-most-meets (pos 0) zeroTerm t r m q (omega (arith, ints)), lengths-made q ts ps (ap (λ (l : List ℤ). drop 1 l) e))
+    (λ r m. at-most-meets (pos 0) zero_term t r m q (omega (arith, ints)), lengths-made q ts ps (ap (λ (l : List ℤ). drop 1 l) e))
 
-pub lengths-firm : (n : ℕ) (ts : List Term) → StableAll n ts → AllByRecursion (IfFirm n) (map (at_most (pos 0) zeroTerm) ts)
+pub lengths-firm : (n : ℕ) (ts : List Term) → StableAll n ts → AllByRecursion (IfFirm n) (map (at_most (pos 0) zero_term) ts)
 lengths-firm n [] h = tt
-lengths-firm n (t ∷ ts) h = (firm-at-most n (pos 0) zeroTerm t (stable-constant n (pos 0)) (h zero), lengths-firm n ts (λ i. h (suc i)))
+lengths-firm n (t ∷ ts) h = (firm-at-most n (pos 0) zero_term t (stable-constant n (pos 0)) (h zero), lengths-firm n ts (λ i. h (suc i)))

@@ -4,7 +4,7 @@ use lib.Dec.{not_T}
 use Rattle.std.specs.List.{AllByRecursion}
 use Rattle.std.proofs.lemmas.Int.{ints}
 use Rattle.ints.specs.Sums.{sum_to}
-use Rattle.ints.specs.Tests.{eqZ}
+use Rattle.ints.specs.Tests.{eq_z}
 use Rattle.rows.specs.declared.row.Row.{Row}
 use Rattle.rows.specs.declared.row.Kind.{Kind}
 use Rattle.rows.specs.declared.row.Kind.TheVariants.{AtMost, Unequal}
@@ -16,8 +16,8 @@ use Rattle.language.specs.declared.sign.Comparison.{Comparison}
 use Rattle.language.specs.declared.sign.Comparison.TheVariants.{Less, LessOrEqual, Equal, NotEqual}
 use Rattle.language.specs.Vocabulary.{holds}
 use Rattle.language.specs.Tree.{Atom, one, named, result, Side, Condition}
-use Rattle.language.specs.Terms.{minus, scaled, worth, fitsTerm}
-use Rattle.language.specs.Comparing.{at_most, unequal, rows, otherwise, sideValue, satisfied, atomValue, atomTerm, sideTerm, conditionRows}
+use Rattle.language.specs.Terms.{minus, scaled, worth, fits_term}
+use Rattle.language.specs.Comparing.{at_most, unequal, rows, otherwise, side_value, satisfied, atom_value, atom_term, side_term, condition_rows}
 use Rattle.language.proofs.Tests.{none-some}
 use Rattle.language.proofs.Worths.{worth-constant, worth-plus, worth-minus, worth-scaled, worths-at, Agree, Stable, StableAll, stable-constant, stable-plus, stable-scaled}
 
@@ -85,7 +85,7 @@ not-not : (b : Bool) → T (not (not b)) → T b
 not-not true h = tt
 not-not false h = h
 
-eq-from : (x y : ℤ) → T (eqZ x y) → x ≡ y
+eq-from : (x y : ℤ) → T (eq_z x y) → x ≡ y
 eq-from x y h = grind (arith, ints)
 
 pub rows-from : (c : Comparison) (q : Assignment) (t u : Term) → T (holds c (worth q t) (worth q u)) → AllByRecursion (IfMade q) (rows c t u)
@@ -103,13 +103,13 @@ rows-to Equal q t u h =
     let x = at-most-met (pos 0) t u h.0.row h.0.made q h.0.met in
     let y = at-most-met (pos 0) u t h.1.0.row h.1.0.made q h.1.0.met in
     grind (arith, ints)
-rows-to NotEqual q t u h = let x = unequal-met t u h.0.row h.0.made q h.0.met in not_T (eqZ (worth q t) (worth q u)) (λ y. x (eq-from (worth q t) (worth q u) y))
+rows-to NotEqual q t u h = let x = unequal-met t u h.0.row h.0.made q h.0.met in not_T (eq_z (worth q t) (worth q u)) (λ y. x (eq-from (worth q t) (worth q u) y))
 
 pub otherwise-from : (c : Comparison) (q : Assignment) (t u : Term) → T (not (holds c (worth q t) (worth q u))) → AllByRecursion (IfMade q) (otherwise c t u)
 otherwise-from Less q t u h = rows-from LessOrEqual q u t (grind (arith, ints))
 otherwise-from LessOrEqual q t u h = rows-from Less q u t (grind (arith, ints))
 otherwise-from Equal q t u h = rows-from NotEqual q t u h
-otherwise-from NotEqual q t u h = rows-from Equal q t u (not-not (eqZ (worth q t) (worth q u)) h)
+otherwise-from NotEqual q t u h = rows-from Equal q t u (not-not (eq_z (worth q t) (worth q u)) h)
 
 pub firm-at-most : (n : ℕ) (k : ℤ) (t u : Term) → Stable n t → Stable n u → IfFirm n (at_most k t u)
 firm-at-most n k t u a b r e q p g m =
@@ -130,56 +130,56 @@ otherwise-firm NotEqual n t u a b = rows-firm Equal n t u a b
 
 -- sides
 module _ (q : Assignment) (ts : List Term) (r : Term) where
-  worth-atom : (a : Atom) → worth q (atomTerm ts r a) ≡ atomValue (map (worth q) ts) (worth q r) a
+  worth-atom : (a : Atom) → worth q (atom_term ts r a) ≡ atom_value (map (worth q) ts) (worth q r) a
   worth-atom one = worth-constant q (pos 1)
   worth-atom (named i) = sym (worths-at q ts i)
   worth-atom result = refl
 
-  pub worth-side : (side : Side) → worth q (sideTerm ts r side) ≡ sideValue (map (worth q) ts) (worth q r) side
-  unfolding sideTerm sideValue
+  pub worth-side : (side : Side) → worth q (side_term ts r side) ≡ side_value (map (worth q) ts) (worth q r) side
+  unfolding side_term side_value
   worth-side [] = worth-constant q (pos 0)
   worth-side (i ∷ is) =
-      worth-plus q (scaled i.factor (atomTerm ts r i.atom)) (sideTerm ts r is)
-      ∙ ap₂ ◌+ℤ◌ (worth-scaled q i.factor (atomTerm ts r i.atom) ∙ ap (λ (x : ℤ). i.factor *ℤ x) (worth-atom i.atom)) (worth-side is)
+      worth-plus q (scaled i.factor (atom_term ts r i.atom)) (side_term ts r is)
+      ∙ ap₂ ◌+ℤ◌ (worth-scaled q i.factor (atom_term ts r i.atom) ∙ ap (λ (x : ℤ). i.factor *ℤ x) (worth-atom i.atom)) (worth-side is)
 
 module _ (n : ℕ) (ts : List Term) (r : Term) (h : StableAll n ts) (k : Stable n r) where
-  stable-atom : (a : Atom) → Stable n (atomTerm ts r a)
+  stable-atom : (a : Atom) → Stable n (atom_term ts r a)
   stable-atom one = stable-constant n (pos 1)
   stable-atom (named i) = h i
   stable-atom result = k
 
-  stable-side : (side : Side) → Stable n (sideTerm ts r side)
-  unfolding sideTerm
+  stable-side : (side : Side) → Stable n (side_term ts r side)
+  unfolding side_term
   stable-side [] = stable-constant n (pos 0)
   stable-side (i ∷ is) =
-      stable-plus n (scaled i.factor (atomTerm ts r i.atom)) (sideTerm ts r is)
-      (stable-scaled n i.factor (atomTerm ts r i.atom) (stable-atom i.atom)) (stable-side is)
+      stable-plus n (scaled i.factor (atom_term ts r i.atom)) (side_term ts r is)
+      (stable-scaled n i.factor (atom_term ts r i.atom) (stable-atom i.atom)) (stable-side is)
 
-  pub condition-firm : (c : Condition) → AllByRecursion (IfFirm n) (conditionRows ts r c)
-  unfolding conditionRows
-  condition-firm c = go (fitsTerm (sideTerm ts r c.left) && fitsTerm (sideTerm ts r c.right))
+  pub condition-firm : (c : Condition) → AllByRecursion (IfFirm n) (condition_rows ts r c)
+  unfolding condition_rows
+  condition-firm c = go (fits_term (side_term ts r c.left) && fits_term (side_term ts r c.right))
     where
-      go : (b : Bool) → AllByRecursion (IfFirm n) (cond b (rows c.comparison (sideTerm ts r c.left) (sideTerm ts r c.right)) (None ∷ []))
-      go true = rows-firm c.comparison n (sideTerm ts r c.left) (sideTerm ts r c.right) (stable-side c.left) (stable-side c.right)
+      go : (b : Bool) → AllByRecursion (IfFirm n) (cond b (rows c.comparison (side_term ts r c.left) (side_term ts r c.right)) (None ∷ []))
+      go true = rows-firm c.comparison n (side_term ts r c.left) (side_term ts r c.right) (stable-side c.left) (stable-side c.right)
       go false = (λ x e. absurd (none-some x e), tt)
 
 -- conditions, where the terms are worth xs and the result v
 module _ (q : Assignment) (ts : List Term) (r : Term) (xs : List ℤ) (v : ℤ) (ex : map (worth q) ts ≡ xs) (ev : worth q r ≡ v) where
-  side-is : (side : Side) → worth q (sideTerm ts r side) ≡ sideValue xs v side
-  side-is side = worth-side q ts r side ∙ ap₂ (λ (x : List ℤ) (y : ℤ). sideValue x y side) ex ev
+  side-is : (side : Side) → worth q (side_term ts r side) ≡ side_value xs v side
+  side-is side = worth-side q ts r side ∙ ap₂ (λ (x : List ℤ) (y : ℤ). side_value x y side) ex ev
 
-  pub condition-from : (c : Condition) → T (satisfied xs v c) → AllByRecursion (IfMade q) (conditionRows ts r c)
-  unfolding conditionRows
-  condition-from c h = go (fitsTerm (sideTerm ts r c.left) && fitsTerm (sideTerm ts r c.right))
+  pub condition-from : (c : Condition) → T (satisfied xs v c) → AllByRecursion (IfMade q) (condition_rows ts r c)
+  unfolding condition_rows
+  condition-from c h = go (fits_term (side_term ts r c.left) && fits_term (side_term ts r c.right))
     where
-      go : (b : Bool) → AllByRecursion (IfMade q) (cond b (rows c.comparison (sideTerm ts r c.left) (sideTerm ts r c.right)) (None ∷ []))
-      go true = rows-from c.comparison q (sideTerm ts r c.left) (sideTerm ts r c.right) (subst₂ (λ (x : ℤ) (y : ℤ). T (holds c.comparison x y)) (sym (side-is c.left)) (sym (side-is c.right)) h)
+      go : (b : Bool) → AllByRecursion (IfMade q) (cond b (rows c.comparison (side_term ts r c.left) (side_term ts r c.right)) (None ∷ []))
+      go true = rows-from c.comparison q (side_term ts r c.left) (side_term ts r c.right) (subst₂ (λ (x : ℤ) (y : ℤ). T (holds c.comparison x y)) (sym (side-is c.left)) (sym (side-is c.right)) h)
       go false = (λ x e. absurd (none-some x e), tt)
 
-  pub condition-to : (c : Condition) → AllByRecursion (Surely q) (conditionRows ts r c) → T (satisfied xs v c)
-  unfolding conditionRows
-  condition-to c = go (fitsTerm (sideTerm ts r c.left) && fitsTerm (sideTerm ts r c.right))
+  pub condition-to : (c : Condition) → AllByRecursion (Surely q) (condition_rows ts r c) → T (satisfied xs v c)
+  unfolding condition_rows
+  condition-to c = go (fits_term (side_term ts r c.left) && fits_term (side_term ts r c.right))
     where
-      go : (b : Bool) → AllByRecursion (Surely q) (cond b (rows c.comparison (sideTerm ts r c.left) (sideTerm ts r c.right)) (None ∷ [])) → T (satisfied xs v c)
-      go true h = subst₂ (λ (x : ℤ) (y : ℤ). T (holds c.comparison x y)) (side-is c.left) (side-is c.right) (rows-to c.comparison q (sideTerm ts r c.left) (sideTerm ts r c.right) h)
+      go : (b : Bool) → AllByRecursion (Surely q) (cond b (rows c.comparison (side_term ts r c.left) (side_term ts r c.right)) (None ∷ [])) → T (satisfied xs v c)
+      go true h = subst₂ (λ (x : ℤ) (y : ℤ). T (holds c.comparison x y)) (side-is c.left) (side-is c.right) (rows-to c.comparison q (side_term ts r c.left) (side_term ts r c.right) h)
       go false h = absurd (none-some h.0.row h.0.made)

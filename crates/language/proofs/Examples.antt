@@ -1,19 +1,19 @@
 -- The worked sheets, by computing.
 use Rattle.std.proofs.Common.{refl}
 use Rattle.ints.specs.Tests.{all_below}
-use Rattle.rows.specs.Limits.{allSmall}
+use Rattle.rows.specs.Limits.{all_small}
 use Rattle.rows.specs.Rows.{row_of}
-use Rattle.language.specs.Tree.{atLists, shape, lent_of}
-use Rattle.language.specs.Terms.{each, constant, quantity, plus, minus, scaled, worth, allNear, worked}
-use Rattle.language.specs.Comparing.{at_most, unequal, sideValue, sideTerm, conditionRows}
-use Rattle.language.specs.Walking.{limit, owe, oweAll, assume, assumeAll, oweChecks, fresh, freshWith, orFresh, finish, join, sameParams, walk, walks, startKnown, walkRules, obligationsOf, firstFault}
-use Rattle.language.specs.Running.{give, halt, emit, ◌>>=◌, spend, check, inside, load, store, fit, values, node, run, madeIn}
-use Rattle.language.specs.Drafts.{refusalOf, firstOpen}
-use Rattle.language.specs.Entering.{gathered, every, firstBroken}
+use Rattle.language.specs.Tree.{at_lists, shape, lent_of}
+use Rattle.language.specs.Terms.{each, constant, quantity, plus, minus, scaled, worth, all_near, worked}
+use Rattle.language.specs.Comparing.{at_most, unequal, side_value, side_term, condition_rows}
+use Rattle.language.specs.Walking.{limit, owe, owe_all, assume, assume_all, owe_checks, fresh, fresh_with, or_fresh, finish, join, same_params, walk, walks, start_known, walk_rules, obligations_of, first_fault}
+use Rattle.language.specs.Running.{give, halt, emit, ◌>>=◌, spend, check, inside, load, store, fit, values, node, run, made_in}
+use Rattle.language.specs.Drafts.{refusal_of, first_open}
+use Rattle.language.specs.Entering.{gathered, every, first_broken}
 use Rattle.language.specs.Examples.{Worked}
 
 pub by-computing : Worked
-unfolding atLists shape lent_of each constant quantity plus minus scaled worth allNear worked at_most unequal sideValue sideTerm conditionRows limit owe oweAll assume assumeAll oweChecks fresh freshWith orFresh finish join sameParams walk walks startKnown walkRules obligationsOf firstFault give halt emit ◌>>=◌ spend check inside load store fit values node run madeIn refusalOf firstOpen gathered every firstBroken allSmall row_of all_below
+unfolding at_lists shape lent_of each constant quantity plus minus scaled worth all_near worked at_most unequal side_value side_term condition_rows limit owe owe_all assume assume_all owe_checks fresh fresh_with or_fresh finish join same_params walk walks start_known walk_rules obligations_of first_fault give halt emit ◌>>=◌ spend check inside load store fit values node run made_in refusal_of first_open gathered every first_broken all_small row_of all_below
 by-computing = record {
   pick-value = (refl, refl, refl, refl, refl);
   pick-spent = (refl, refl, refl, refl, refl);

@@ -10,34 +10,34 @@ use Rattle.language.specs.declared.term.Term.{Term}
 use Rattle.language.specs.declared.ending.Ending.TheVariants.{Deep}
 use Rattle.language.specs.declared.refusal.Refusal.TheVariants.{Name}
 use Rattle.language.specs.Vocabulary.{reckoned, holds}
-use Rattle.language.specs.Tree.{Condition, Site, Expr, num, name, calc, read, call, bind, test, put, claim, Args, end, value, lent, noExpr, Param, a_number, aList, Rule, ruleAt, atLists, shape, lent_of}
-use Rattle.language.specs.Terms.{zeroTerm, quantity, worth, termAt, worked, constant, limited}
-use Rattle.language.specs.Comparing.{at_most, satisfied, rows, otherwise, conditionsRows}
-use Rattle.language.specs.Walking.{Note, Stand, Scope, Found, limit, oweAll, assume, oweChecks, numbered, counted, knowing, binding, fresh, freshWith, orFresh, Mode, infer, check, finish, join, sameParams, callable, walk, walks, start_names, startScope, startKnown, startStand, walkBody}
+use Rattle.language.specs.Tree.{Condition, Site, Expr, num, name, calc, read, call, bind, test, put, claim, Args, end, value, lent, no_expr, Param, a_number, a_list, Rule, rule_at, at_lists, shape, lent_of}
+use Rattle.language.specs.Terms.{zero_term, quantity, worth, term_at, worked, constant, limited}
+use Rattle.language.specs.Comparing.{at_most, satisfied, rows, otherwise, conditions_rows}
+use Rattle.language.specs.Walking.{Note, Stand, Scope, Found, limit, owe_all, assume, owe_checks, numbered, counted, knowing, binding, fresh, fresh_with, or_fresh, Mode, infer, check, finish, join, same_params, callable, walk, walks, start_names, start_scope, start_known, start_stand, walk_body}
 use Rattle.language.specs.Running.{Event, came, called, returned, Run, ◌>>=◌, in_range, Dropped, touch, Frame, part_at, length_of, holding, Program, Eval, enter, values, node, run}
 use Rattle.language.proofs.Worths.{worth-constant, worth-quantity, worked-worth, worths-at, worths-move, Agree, agree_less, agree_trans, Stable, StableAll, stable-more, stables-more, limited-is}
 use Rattle.language.proofs.Comparisons.{Firm, rows-from, otherwise-from, rows-firm, otherwise-firm}
-use Rattle.language.proofs.Walks.{facts-move, assume-meets, assume-firm, assumeAll-meets, Ok, found, OkScope, scope-more, scope-binding, walk-ok, walks-ok, start-scope, start-firm}
+use Rattle.language.proofs.Walks.{facts-move, assume-meets, assume-firm, assume_all-meets, Ok, found, OkScope, scope-more, scope-binding, walk-ok, walks-ok, start-scope, start-firm}
 use Rattle.language.proofs.Same.{Same, full, same-give, same-halt, same-emit, same_load, same_store, same-spend, same-bind, same_cond, same-fit, same-touch, same_post}
 use Rattle.language.proofs.Duties.{all_left, all_right, Fine, limit-met, fresh-notes, fresh-room, with-fresh, or-fresh-notes, join-notes, conditions-hold, Passing, checks-pass}
-use Rattle.language.proofs.Assigning.{assign, assign-same, assign-agree, assign-within, valued, valued-within, names-worth, map-atLists, lengths-made}
+use Rattle.language.proofs.Assigning.{assign, assign-same, assign-agree, assign-within, valued, valued-within, names-worth, map-at_lists, lengths-made}
 use Rattle.language.proofs.Tests.{both_left, both_right}
 
-same_params : (ps qs : List Param) → T (sameParams ps qs) → ps ≡ qs
-unfolding sameParams
-same_params [] [] h = refl
-same_params [] (q ∷ qs) h = absurd h
-same_params (p ∷ ps) [] h = absurd h
-same_params (a_number ∷ ps) (a_number ∷ qs) h = ap (λ rs. a_number ∷ rs) (same_params ps qs h)
-same_params (a_number ∷ ps) (aList ∷ qs) h = absurd h
-same_params (aList ∷ ps) (a_number ∷ qs) h = absurd h
-same_params (aList ∷ ps) (aList ∷ qs) h = ap (λ rs. aList ∷ rs) (same_params ps qs h)
+same_params-law : (ps qs : List Param) → T (same_params ps qs) → ps ≡ qs
+unfolding same_params
+same_params-law [] [] h = refl
+same_params-law [] (q ∷ qs) h = absurd h
+same_params-law (p ∷ ps) [] h = absurd h
+same_params-law (a_number ∷ ps) (a_number ∷ qs) h = ap (λ rs. a_number ∷ rs) (same_params-law ps qs h)
+same_params-law (a_number ∷ ps) (a_list ∷ qs) h = absurd h
+same_params-law (a_list ∷ ps) (a_number ∷ qs) h = absurd h
+same_params-law (a_list ∷ ps) (a_list ∷ qs) h = ap (λ rs. a_list ∷ rs) (same_params-law ps qs h)
 
 -- an event of a full run is good: a check is made, and passes if it is settled, a call meets its needs, a returned value meets its gives
 abbrev pub Good : List Rule → Dropped → Event → Type 0
 Good R S (came n made passes) = (made ≡ true) × (T (S n) → T passes)
-Good R S (called f xs) = AllByRecursion (λ c. T (satisfied xs (pos 0) c)) (ruleAt R f).needs
-Good R S (returned f xs v) = AllByRecursion (λ c. T (satisfied xs v c)) (ruleAt R f).gives
+Good R S (called f xs) = AllByRecursion (λ c. T (satisfied xs (pos 0) c)) (rule_at R f).needs
+Good R S (returned f xs v) = AllByRecursion (λ c. T (satisfied xs v c)) (rule_at R f).gives
 
 module _ (R : List Rule) (P : Program) (S : Dropped) (N : ℕ) where
   abbrev InRange : ℤ → Type 0
@@ -103,7 +103,7 @@ module _ (R : List Rule) (P : Program) (S : Dropped) (N : ℕ) where
     parts = h.parts;
   }
 
-  here-length : {q : Assignment} {Γ : Scope} {n : ℕ} {F : List Row} {E : Frame} → Here q Γ n F E → (j : ℕ) → worth q (termAt Γ.lengths j) ≡ length_of (part_at E.parts j)
+  here-length : {q : Assignment} {Γ : Scope} {n : ℕ} {F : List Row} {E : Frame} → Here q Γ n F E → (j : ℕ) → worth q (term_at Γ.lengths j) ≡ length_of (part_at E.parts j)
   here-length {q} {Γ} {E = E} h j = sym (worths-at q Γ.lengths j) ∙ ap (λ (l : List ℤ). get_or l j (pos 0)) h.lengths ∙ go E.parts j
     where
       go : (ps : List Part) (j : ℕ) → get_or (map length_of ps) j (pos 0) ≡ length_of (part_at ps j)
@@ -129,15 +129,15 @@ module _ (R : List Rule) (P : Program) (S : Dropped) (N : ℕ) where
   -- a value for the next quantity, of which conditions are facts
   with-met : {q : Assignment} {Γ : Scope} {E : Frame} (place : ℕ) (ts : List Term) (cs : List Condition) (s : Stand) (notes : List Note) → Here q Γ s.next s.facts E → s.next < 16
       → (v : ℤ) → InRange v → (xs : List ℤ) → StableAll s.next ts → map (worth q) ts ≡ xs → AllByRecursion (λ c. T (satisfied xs v c)) cs
-      → Met q s.next (freshWith place ts cs s notes).stand.facts (freshWith place ts cs s notes).term v
-  unfolding freshWith fresh
+      → Met q s.next (fresh_with place ts cs s notes).stand.facts (fresh_with place ts cs s notes).term v
+  unfolding fresh_with fresh
   with-met {q} place ts cs s notes h l v f xs st ex k =
       let m = fresh-met h l v f in
       record {
         asg = m.asg;
         agree = m.agree;
         range = m.range;
-        facts = assumeAll-meets m.asg (λ c. place) ts (quantity s.next) xs v (sym (worths-move s.next q m.asg m.agree ts st) ∙ ex) m.is s.facts cs m.facts k;
+        facts = assume_all-meets m.asg (λ c. place) ts (quantity s.next) xs v (sym (worths-move s.next q m.asg m.agree ts st) ∙ ex) m.is s.facts cs m.facts k;
         is = m.is;
         fits = f;
       }
@@ -180,9 +180,9 @@ module _ (R : List Rule) (P : Program) (S : Dropped) (N : ℕ) where
 
   -- a term that was worked out, or else the next quantity
   or-met : {q : Assignment} {Γ : Scope} {E : Frame} (place : ℕ) (t : Option Term) (v : ℤ) (s : Stand) (notes : List Note) → Here q Γ s.next s.facts E
-      → ((u : Term) → t ≡ Some u → worth q u ≡ v) → AllByRecursion (Fine P.low P.high S) (orFresh place t s notes).notes → InRange v
-      → Met q s.next (orFresh place t s notes).stand.facts (orFresh place t s notes).term v
-  unfolding orFresh fresh
+      → ((u : Term) → t ≡ Some u → worth q u ≡ v) → AllByRecursion (Fine P.low P.high S) (or_fresh place t s notes).notes → InRange v
+      → Met q s.next (or_fresh place t s notes).stand.facts (or_fresh place t s notes).term v
+  unfolding or_fresh fresh
   or-met place None v s notes h e f i = fresh-met h (fresh-room P.low P.high S place s notes f) v i
   or-met place (Some u) v s notes h e f i = here-met h u v (e u refl) i
 
@@ -217,27 +217,27 @@ module _ (R : List Rule) (P : Program) (S : Dropped) (N : ℕ) where
     pub are : map (worth asg) ts ≡ xs
     pub fits : AllByRecursion InRange xs
     pub count : length xs ≡ length ps
-    pub lengths : atLists ps xs ≡ map length_of parts
+    pub lengths : at_lists ps xs ≡ map length_of parts
 
   -- what a rule is entered with
   pub record Inputs (f : ℕ) (xs : List ℤ) (ps : List Part) : Type 0 where
     pub exists : T (ltb f (length R))
-    pub count : length xs ≡ length (ruleAt R f).params
-    pub lengths : atLists (ruleAt R f).params xs ≡ map length_of ps
+    pub count : length xs ≡ length (rule_at R f).params
+    pub lengths : at_lists (rule_at R f).params xs ≡ map length_of ps
     pub fits : AllByRecursion InRange xs
     pub parts : (j : ℕ) → PartOk (part_at ps j)
-    pub needs : AllByRecursion (λ c. T (satisfied xs (pos 0) c)) (ruleAt R f).needs
+    pub needs : AllByRecursion (λ c. T (satisfied xs (pos 0) c)) (rule_at R f).needs
 
   -- what a rule gives
   abbrev pub Gives : ℕ → List ℤ → ℤ → Type 0
-  Gives f xs v = InRange v × AllByRecursion (λ c. T (satisfied xs v c)) (ruleAt R f).gives
+  Gives f xs v = InRange v × AllByRecursion (λ c. T (satisfied xs v c)) (rule_at R f).gives
 
   -- the body of a rule is what the walk made of it, and it owes nothing that is not fine
   pub record BodyOk (f : ℕ) : Type 0 where
     pub count : ℕ
-    pub body : get_or P.bodies f noExpr ≡ (walkBody R count (ruleAt R f)).tree
-    pub start : AllByRecursion (Fine P.low P.high S) (startKnown (ruleAt R f)).notes
-    pub notes : AllByRecursion (Fine P.low P.high S) (walkBody R count (ruleAt R f)).notes
+    pub body : get_or P.bodies f no_expr ≡ (walk_body R count (rule_at R f)).tree
+    pub start : AllByRecursion (Fine P.low P.high S) (start_known (rule_at R f)).notes
+    pub notes : AllByRecursion (Fine P.low P.high S) (walk_body R count (rule_at R f)).notes
 
   -- two ways to run expressions come to the same, for every expression that the walk takes
   pub record Evals (ev ev' : Eval) : Type 0 where
@@ -245,7 +245,7 @@ module _ (R : List Rule) (P : Program) (S : Dropped) (N : ℕ) where
         → AllByRecursion (Fine P.low P.high S) (walk R μ Γ s e).notes
         → Same S N (Good R S) (Post μ L q s.next (walk R μ Γ s e).stand.facts (walk R μ Γ s e).term) (ev E (walk R μ Γ s e).tree) (ev' E (walk R μ Γ s e).tree)
 
-  module _ (zeroFits : InRange (pos 0)) (bodies : (f : ℕ) → T (ltb f (length R)) → BodyOk f) (ev ev' : Eval) (ih : Evals ev ev') where
+  module _ (zero_fits : InRange (pos 0)) (bodies : (f : ℕ) → T (ltb f (length R)) → BodyOk f) (ev ev' : Eval) (ih : Evals ev ev') where
     then : {A B : Type 0} {Q : A → Type 0} {Z : B → Type 0} {m n : Run A} {k l : A → Run B}
         → Same S N (Good R S) Q m n → ((a : A) → Q a → Same S N (Good R S) Z (k a) (l a)) → Same S N (Good R S) Z (m >>= k) (n >>= l)
     then h f = same-bind S N (Good R S) _ _ _ _ _ _ h f
@@ -254,23 +254,23 @@ module _ (R : List Rule) (P : Program) (S : Dropped) (N : ℕ) where
     walked {Γ = Γ} s μ e h = walk-ok R μ Γ s e h.scope h.firm
 
     -- where a rule's body begins
-    here-start : (f : ℕ) (xs : List ℤ) (ps : List Part) → Inputs f xs ps → AllByRecursion (Fine P.low P.high S) (startKnown (ruleAt R f)).notes
-        → Here (valued xs) (startScope (ruleAt R f)) (length (ruleAt R f).params) (startKnown (ruleAt R f)).facts (record { values = xs; parts = ps })
-    unfolding startKnown
+    here-start : (f : ℕ) (xs : List ℤ) (ps : List Part) → Inputs f xs ps → AllByRecursion (Fine P.low P.high S) (start_known (rule_at R f)).notes
+        → Here (valued xs) (start_scope (rule_at R f)) (length (rule_at R f).params) (start_known (rule_at R f)).facts (record { values = xs; parts = ps })
+    unfolding start_known
     here-start f xs ps i o =
-        let r = ruleAt R f in
+        let r = rule_at R f in
         let k = length r.params in
         let q = valued xs in
         let ns = start_names r in
-        let ls = (startScope r).lengths in
+        let ls = (start_scope r).lengths in
         let room = leb→le k 16 (limit-met P.low P.high S (leb k 16) _ (all_left _ (limit (leb k 16) _) _ o)) in
         let names : map (worth q) ns ≡ xs = subst (λ (j : ℕ). map (worth q) (map quantity (range_with_len 0 j)) ≡ xs) i.count (names-worth xs (omega (arith, i.count, room))) in
-        let lengths : map (worth q) ls ≡ map length_of ps = map-atLists (worth q) r.params ns ∙ ap (atLists r.params) names ∙ i.lengths in
+        let lengths : map (worth q) ls ≡ map length_of ps = map-at_lists (worth q) r.params ns ∙ ap (at_lists r.params) names ∙ i.lengths in
         record {
           scope = start-scope r;
           firm = start-firm r;
-          range = valued-within P.low P.high zeroFits xs i.fits;
-          facts = assumeAll-meets q (λ c. c.place) ns zeroTerm xs (pos 0) names (worth-constant q (pos 0)) _ r.needs (assume-meets q r.place [] (map (at_most (pos 0) zeroTerm) ls) tt (lengths-made q ls ps lengths)) i.needs;
+          range = valued-within P.low P.high zero_fits xs i.fits;
+          facts = assume_all-meets q (λ c. c.place) ns zero_term xs (pos 0) names (worth-constant q (pos 0)) _ r.needs (assume-meets q r.place [] (map (at_most (pos 0) zero_term) ls) tt (lengths-made q ls ps lengths)) i.needs;
           names = names;
           lengths = lengths;
           parts = i.parts;
@@ -279,17 +279,17 @@ module _ (R : List Rule) (P : Program) (S : Dropped) (N : ℕ) where
     -- a rule that is entered gives what it gives
     pub enter-sound : (f : ℕ) (xs : List ℤ) (ps : List Part) → Inputs f xs ps → Same S N (Good R S) (Gives f xs) (enter P ev f xs ps) (enter P ev' f xs ps)
     enter-sound f xs ps i =
-        let r = ruleAt R f in
+        let r = rule_at R f in
         let b = bodies f i.exists in
         let h = here-start f xs ps i b.start in
         then (same-emit S N (Good R S) (called f xs) (called f xs) refl i.needs) (λ _ _.
         then (subst (λ (e : Expr). Same S N (Good R S) (Gives f xs) (ev (record { values = xs; parts = ps }) e) (ev' (record { values = xs; parts = ps }) e)) (sym b.body)
-        (ih.at r.body (check (start_names r) r.gives) xs (startScope r) (startStand r b.count) (record { values = xs; parts = ps }) (valued xs) (h.scope.names, h.names) h b.notes))
+        (ih.at r.body (check (start_names r) r.gives) xs (start_scope r) (start_stand r b.count) (record { values = xs; parts = ps }) (valued xs) (h.scope.names, h.names) h b.notes))
         (λ v p. then (same-emit S N (Good R S) (returned f xs v) (returned f xs v) refl p.1) (λ _ _. same-give S N (Good R S) _ v p)))
 
     values-sound : (es : Args) {Γ : Scope} {E : Frame} {q : Assignment} (s : Stand) → Here q Γ s.next s.facts E → AllByRecursion (Fine P.low P.high S) (walks R Γ s es).notes
         → Same S N (Good R S) (Mets q s.next (walks R Γ s es).stand.facts (walks R Γ s es).terms (shape es) (map (part_at E.parts) (lent_of (walks R Γ s es).tree))) (values ev E (walks R Γ s es).tree) (values ev' E (walks R Γ s es).tree)
-    unfolding walks values shape lent_of atLists
+    unfolding walks values shape lent_of at_lists
     values-sound end {q = q} s h o = same-give S N (Good R S) _ [] (record { asg = q; agree = λ i k. refl; range = h.range; facts = h.facts; are = refl; fits = tt; count = refl; lengths = refl })
     values-sound (value e es) {Γ} {E} s h o =
         let g = walk R infer Γ s e in
@@ -320,13 +320,13 @@ module _ (R : List Rule) (P : Program) (S : Dropped) (N : ℕ) where
         }))
 
     part-at : (E : List Part) → ((j : ℕ) → PartOk (part_at E j)) → (ls : List ℕ) (j : ℕ) → PartOk (part_at (map (part_at E) ls) j)
-    part-at E h [] j = record { inside = omega arith; fits = zeroFits }
+    part-at E h [] j = record { inside = omega arith; fits = zero_fits }
     part-at E h (l ∷ ls) zero = h l
     part-at E h (l ∷ ls) (suc j) = part-at E h ls j
 
     -- the two checks of an index, and the cell
     touched : {q : Assignment} {Γ : Scope} {n : ℕ} {F : List Row} {E : Frame} (site : Site) (k : ℕ) (t : Term) (x : ℤ) → (h : Here q Γ n F E) → worth q t ≡ x
-        → Passing P.low P.high S q h.range k t (termAt Γ.lengths site.list)
+        → Passing P.low P.high S q h.range k t (term_at Γ.lengths site.list)
         → Same S N (Good R S) (λ a. Unit {0}) (touch S (numbered site k) (part_at E.parts site.list) x) (touch full (numbered site k) (part_at E.parts site.list) x)
     touched {E = E} site k t x h e p =
         let below = λ (z : T (S k)). subst (λ (y : ℤ). T (le_z (pos 0) y)) e (p.below z) in
@@ -343,7 +343,7 @@ module _ (R : List Rule) (P : Program) (S : Dropped) (N : ℕ) where
     node-sound (num p n) μ L s {q = q} md h o =
         finished μ L p _ q s.next _ _ md o (λ o. same-fit S N (Good R S) P p _ _ (λ t. or-met p (limited (constant (pos n))) (pos n) s [] h (λ u e. ap (worth q) (sym (limited-is (constant (pos n)) u e)) ∙ worth-constant q (pos n)) o t))
     node-sound (name p i) μ L {Γ} s {q = q} md h o =
-        finished μ L p _ q s.next _ _ md o (λ _. same-fit S N (Good R S) P p _ _ (λ t. here-met h (termAt Γ.names i) _ (sym (worths-at q Γ.names i) ∙ ap (λ (l : List ℤ). get_or l i (pos 0)) h.names) t))
+        finished μ L p _ q s.next _ _ md o (λ _. same-fit S N (Good R S) P p _ _ (λ t. here-met h (term_at Γ.names i) _ (sym (worths-at q Γ.names i) ∙ ap (λ (l : List ℤ). get_or l i (pos 0)) h.names) t))
     node-sound (calc p c a b) μ L {Γ} s {E} {q} md h o =
         let g = walk R infer Γ s a in
         let k = walk R infer Γ g.stand b in
@@ -358,8 +358,8 @@ module _ (R : List Rule) (P : Program) (S : Dropped) (N : ℕ) where
     node-sound (read site e) μ L {Γ} s {E} {q} md h o =
         let g = walk R infer Γ s e in
         let gk = walked s infer e h in
-        let u = termAt Γ.lengths site.list in
-        let w = oweChecks site site.place g.stand g.term u in
+        let u = term_at Γ.lengths site.list in
+        let w = owe_checks site site.place g.stand g.term u in
         let t = counted g.stand w.count in
         finished μ L site.place _ q s.next _ _ md o (λ o.
         let o₂ = fresh-notes P.low P.high S site.place t (g.notes ++ w.notes) o in
@@ -371,8 +371,8 @@ module _ (R : List Rule) (P : Program) (S : Dropped) (N : ℕ) where
     node-sound (call p f es) μ L {Γ} s {E} {q} md h o =
         let g = walks R Γ s es in
         let gk = walks-ok R Γ s es h.scope h.firm in
-        let r = ruleAt R f in
-        let w = oweAll p g.stand.facts g.stand.count (conditionsRows g.terms zeroTerm r.needs) in
+        let r = rule_at R f in
+        let w = owe_all p g.stand.facts g.stand.count (conditions_rows g.terms zero_term r.needs) in
         let t = counted g.stand w.count in
         let first = limit (callable R f es) (Name p) in
         let notes = (first ++ g.notes) ++ w.notes in
@@ -381,7 +381,7 @@ module _ (R : List Rule) (P : Program) (S : Dropped) (N : ℕ) where
         let o₂ = fresh-notes P.low P.high S p t notes o₁ in
         let o₃ = all_left _ (first ++ g.notes) w.notes o₂ in
         let able = limit-met P.low P.high S (callable R f es) (Name p) (all_left _ first g.notes o₃) in
-        let fit-params = same_params (shape es) r.params (both_right (ltb f (length R)) _ able) in
+        let fit-params = same_params-law (shape es) r.params (both_right (ltb f (length R)) _ able) in
         then (values-sound es s h (all_right _ first g.notes o₃)) (λ xs v.
         let h₁ = here_on h v.asg g.stand.next g.stand.facts v.agree gk.stand.up v.range gk.stand.facts v.facts in
         same_post S N (Good R S) _ _ _ _
@@ -389,10 +389,10 @@ module _ (R : List Rule) (P : Program) (S : Dropped) (N : ℕ) where
         (enter-sound f xs (map (part_at E.parts) (lent_of g.tree)) (record {
           exists = both_left (ltb f (length R)) _ able;
           count = v.count ∙ ap length fit-params;
-          lengths = ap (λ (ps : List Param). atLists ps xs) (sym fit-params) ∙ v.lengths;
+          lengths = ap (λ (ps : List Param). at_lists ps xs) (sym fit-params) ∙ v.lengths;
           fits = v.fits;
           parts = part-at E.parts h.parts (lent_of g.tree);
-          needs = conditions-hold P.low P.high S v.asg v.range p g.stand.facts v.facts g.stand.count g.terms zeroTerm xs (pos 0) v.are (worth-constant v.asg (pos 0)) r.needs (all_right _ (first ++ g.notes) w.notes o₂);
+          needs = conditions-hold P.low P.high S v.asg v.range p g.stand.facts v.facts g.stand.count g.terms zero_term xs (pos 0) v.are (worth-constant v.asg (pos 0)) r.needs (all_right _ (first ++ g.notes) w.notes o₂);
         }))))
     node-sound (bind p a b) μ L {Γ} s {E} {q} md h o =
         let g = walk R infer Γ s a in
@@ -438,8 +438,8 @@ module _ (R : List Rule) (P : Program) (S : Dropped) (N : ℕ) where
         let g = walk R infer Γ s a in
         let k = walk R infer Γ g.stand b in
         let gk = walked s infer a h in
-        let u = termAt Γ.lengths site.list in
-        let c = oweChecks site p k.stand g.term u in
+        let u = term_at Γ.lengths site.list in
+        let c = owe_checks site p k.stand g.term u in
         let t = counted k.stand c.count in
         let f = walk R μ Γ t e in
         let sides = g.notes ++ k.notes in

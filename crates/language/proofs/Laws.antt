@@ -3,29 +3,29 @@ use Rattle.std.proofs.Common.{◌≡◌, ℕ, Bool, true, false, cond, ltb, List
 use Rattle.language.specs.declared.ending.Ending.{Ending}
 use Rattle.language.specs.declared.refusal.Refusal.{Refusal}
 use Rattle.language.specs.declared.refusal.Refusal.TheVariants.{Full}
-use Rattle.language.specs.Limits.{mostObligations}
-use Rattle.language.specs.Walking.{Note, owes, fault, firstFault}
-use Rattle.language.specs.Running.{Event, came, called, returned, State, Outcome, done, stop, wild, Ran, Run, after, ◌>>=◌, madeIn}
+use Rattle.language.specs.Limits.{most_obligations}
+use Rattle.language.specs.Walking.{Note, owes, fault, first_fault}
+use Rattle.language.specs.Running.{Event, came, called, returned, State, Outcome, done, stop, wild, Ran, Run, after, ◌>>=◌, made_in}
 use Rattle.language.proofs.Tests.{none-some}
 
 -- the first fault of notes is that of the first part, or else of the rest
-pub fault-first : (ns bs : List Note) (r : Refusal) → firstFault ns ≡ Some r → firstFault (ns ++ bs) ≡ Some r
-unfolding firstFault
+pub fault-first : (ns bs : List Note) (r : Refusal) → first_fault ns ≡ Some r → first_fault (ns ++ bs) ≡ Some r
+unfolding first_fault
 fault-first [] bs r e = absurd (none-some r e)
 fault-first (fault q ∷ ns) bs r e = e
-fault-first (owes o work ∷ ns) bs r e = go (ltb o.number mostObligations) (fault-first ns bs r) e
+fault-first (owes o work ∷ ns) bs r e = go (ltb o.number most_obligations) (fault-first ns bs r) e
   where
-    go : (b : Bool) → (firstFault ns ≡ Some r → firstFault (ns ++ bs) ≡ Some r) → cond b (firstFault ns) (Some (Full work)) ≡ Some r → cond b (firstFault (ns ++ bs)) (Some (Full work)) ≡ Some r
+    go : (b : Bool) → (first_fault ns ≡ Some r → first_fault (ns ++ bs) ≡ Some r) → cond b (first_fault ns) (Some (Full work)) ≡ Some r → cond b (first_fault (ns ++ bs)) (Some (Full work)) ≡ Some r
     go true f e = f e
     go false f e = e
 
-pub fault-next : (ns bs : List Note) → firstFault ns ≡ None → firstFault (ns ++ bs) ≡ firstFault bs
-unfolding firstFault
+pub fault-next : (ns bs : List Note) → first_fault ns ≡ None → first_fault (ns ++ bs) ≡ first_fault bs
+unfolding first_fault
 fault-next [] bs e = refl
 fault-next (fault q ∷ ns) bs e = absurd (none-some q (sym e))
-fault-next (owes o work ∷ ns) bs e = go (ltb o.number mostObligations) (fault-next ns bs) e
+fault-next (owes o work ∷ ns) bs e = go (ltb o.number most_obligations) (fault-next ns bs) e
   where
-    go : (b : Bool) → (firstFault ns ≡ None → firstFault (ns ++ bs) ≡ firstFault bs) → cond b (firstFault ns) (Some (Full work)) ≡ None → cond b (firstFault (ns ++ bs)) (Some (Full work)) ≡ firstFault bs
+    go : (b : Bool) → (first_fault ns ≡ None → first_fault (ns ++ bs) ≡ first_fault bs) → cond b (first_fault ns) (Some (Full work)) ≡ None → cond b (first_fault (ns ++ bs)) (Some (Full work)) ≡ first_fault bs
     go true f e = f e
     go false f e = absurd (none-some (Full work) (sym e))
 
@@ -47,8 +47,8 @@ module _ {A B : Type 0} (m : Run A) (k : A → Run B) (s : State) where
   bind-wild e = ap on e
 
 -- the checks made, one run after another
-pub made-append : (es ds : List Event) → madeIn (es ++ ds) ≡ madeIn es ++ madeIn ds
-unfolding madeIn
+pub made-append : (es ds : List Event) → made_in (es ++ ds) ≡ made_in es ++ made_in ds
+unfolding made_in
 made-append [] ds = refl
 made-append (came n true passes ∷ es) ds = ap (λ (l : List ℕ). n ∷ l) (made-append es ds)
 made-append (came n false passes ∷ es) ds = made-append es ds

@@ -10,15 +10,15 @@ use Rattle.language.specs.declared.ending.Ending.{Ending}
 use Rattle.language.specs.declared.ending.Ending.TheVariants.{Spent, Range}
 use Rattle.language.specs.declared.owed.Check.{Check}
 use Rattle.language.specs.declared.owed.Check.TheVariants.{Below, Above}
-use Rattle.language.specs.Vocabulary.{checkEnding}
+use Rattle.language.specs.Vocabulary.{check_ending}
 use Rattle.language.specs.Tree.{Site}
 use Rattle.language.specs.Running.{Event, came, called, returned, State, Outcome, done, stop, wild, Ran, Run, quiet, give, halt, emit, after, ◌>>=◌, spend, in_range, Dropped, check, cell_of, inside, load, store, touch, Program, fit}
 
 -- an event of the full run, as it is in a book's run that drops S
-abbrev pub asBook : Dropped → Event → Event
-asBook S (came n made passes) = came n (not (S n)) passes
-asBook S (called f xs) = called f xs
-asBook S (returned f xs v) = returned f xs v
+abbrev pub as_book : Dropped → Event → Event
+as_book S (came n made passes) = came n (not (S n)) passes
+as_book S (called f xs) = called f xs
+as_book S (returned f xs v) = returned f xs v
 
 abbrev pub full : Dropped
 full n = false
@@ -33,7 +33,7 @@ Ends N P wild = ⊥
 module _ (S : Dropped) (N : ℕ) (G : Event → Type 0) where
   pub record Both {A : Type 0} (P : A → Type 0) (o p : Ran A) : Type 0 where
     pub same : o.outcome ≡ p.outcome
-    pub log : o.log ≡ map (asBook S) p.log
+    pub log : o.log ≡ map (as_book S) p.log
     pub good : AllByRecursion G p.log
     pub post : Ends N P p.outcome
 
@@ -48,7 +48,7 @@ module _ (S : Dropped) (N : ℕ) (G : Event → Type 0) where
   unfolding halt
   same-halt P kind place = record { from = λ s l. record { same = refl; log = refl; good = tt; post = tt } }
 
-  pub same-emit : (e d : Event) → d ≡ asBook S e → G e → Same (λ x. Unit {0}) (emit d) (emit e)
+  pub same-emit : (e d : Event) → d ≡ as_book S e → G e → Same (λ x. Unit {0}) (emit d) (emit e)
   unfolding emit
   same-emit e d h g = record { from = λ s l. record { same = refl; log = ap (λ (x : Event). x ∷ []) h; good = (g, tt); post = (tt, l) } }
 
@@ -83,10 +83,10 @@ module _ (S : Dropped) (N : ℕ) (G : Event → Type 0) where
         | wild ↦ record { log = o.log; outcome = wild }
       ]
 
-      at-end : (d c : List Event) (e : Outcome A) → d ≡ map (asBook S) c → AllByRecursion G c → Ends N P e → Both Q (on (record { log = d; outcome = e }) k) (on (record { log = c; outcome = e }) l)
+      at-end : (d c : List Event) (e : Outcome A) → d ≡ map (as_book S) c → AllByRecursion G c → Ends N P e → Both Q (on (record { log = d; outcome = e }) k) (on (record { log = c; outcome = e }) l)
       at-end d c (done a t) e g h =
           let r = (f a h.0).from t h.1 in
-          record { same = r.same; log = ap₂ ◌++◌ e r.log ∙ sym (map-append (asBook S) c (l a t).log); good = All-append G c (l a t).log g r.good; post = r.post }
+          record { same = r.same; log = ap₂ ◌++◌ e r.log ∙ sym (map-append (as_book S) c (l a t).log); good = All-append G c (l a t).log g r.good; post = r.post }
       at-end d c (stop kind place t) e g h = record { same = refl; log = e; good = g; post = tt }
       at-end d c wild e g h = absurd h
 
@@ -107,11 +107,11 @@ module _ (S : Dropped) (N : ℕ) (G : Event → Type 0) where
   unfolding check
   same_check kind place n b g h = same-bind _ _ _ _ _ _ (same-emit (came n true b) (came n (not (S n)) b) refl g) (λ x y. go (S n) b h)
     where
-      go : (d b : Bool) → (T d → T b) → Same (λ x. T b) (cond (d || b) (give {A = Unit {0}} tt) (halt (checkEnding kind) place)) (cond b (give tt) (halt (checkEnding kind) place))
+      go : (d b : Bool) → (T d → T b) → Same (λ x. T b) (cond (d || b) (give {A = Unit {0}} tt) (halt (check_ending kind) place)) (cond b (give tt) (halt (check_ending kind) place))
       go true true h = same-give _ tt tt
       go false true h = same-give _ tt tt
       go true false h = absurd (h tt)
-      go false false h = same-halt _ (checkEnding kind) place
+      go false false h = same-halt _ (check_ending kind) place
 
   same-found : (a : ℕ) → a < N → Same (λ c. Unit {0}) (inside (Some a)) (inside (Some a))
   unfolding inside

@@ -10,13 +10,13 @@ use Rattle.rows.specs.Meaning.{Follows}
 use Rattle.domains.specs.Faults.{Outcome, Good}
 use Rattle.language.specs.declared.refusal.Refusal.TheVariants.{Narrow}
 use Rattle.language.specs.Walking.{Obligation}
-use Rattle.language.specs.Drafts.{Sheet, Draft, draftOf, Domain, Prover, wide, judged, verified, asked, settle, markIf, settled, marked}
-use Rattle.language.specs.Histories.{Step, settling, ready, draftAfter, goodProposal, goodFor, good, plainAfter, on}
+use Rattle.language.specs.Drafts.{Sheet, Draft, draft_of, Domain, Prover, wide, judged, verified, asked, settle, mark_if, settled, marked}
+use Rattle.language.specs.Histories.{Step, settling, ready, draft_after, good_proposal, good_for, good, plain_after, on}
 use Rattle.language.specs.Promise.{GoodSettling, HadGood}
 use Rattle.language.proofs.Tests.{both-from, both_left, both_right, none-some}
 
 -- a settling is good by its test just where it is good
-good-proposal : (d : Domain) (o : Obligation) (c : Option (List ℕ)) → T (goodProposal d o c) → (x : List ℕ) × (c ≡ Some x) × Good (d.outcome o.facts o.goal x)
+good-proposal : (d : Domain) (o : Obligation) (c : Option (List ℕ)) → T (good_proposal d o c) → (x : List ℕ) × (c ≡ Some x) × Good (d.outcome o.facts o.goal x)
 good-proposal d o None h = absurd h
 good-proposal d o (Some x) h = (x, refl, go (d.outcome o.facts o.goal x) h)
   where
@@ -28,7 +28,7 @@ module _ (sheet : Sheet) where
   good-to : (n : ℕ) (d : Domain) (p : Prover) → T (good sheet n d p) → GoodSettling sheet n d p
   good-to n d p = go (slice_get sheet.obligations n) refl
     where
-      go : (o : Option Obligation) → slice_get sheet.obligations n ≡ o → T (goodFor sheet d p o) → GoodSettling sheet n d p
+      go : (o : Option Obligation) → slice_get sheet.obligations n ≡ o → T (good_for sheet d p o) → GoodSettling sheet n d p
       go None e h = absurd h
       go (Some o) e h =
           let c = good-proposal d o (p.proposes o.facts o.goal) (both_right (wide sheet d) _ h) in
@@ -36,8 +36,8 @@ module _ (sheet : Sheet) where
 
   good-from : (n : ℕ) (d : Domain) (p : Prover) → GoodSettling sheet n d p → T (good sheet n d p)
   good-from n d p g =
-      subst (λ (o : Option Obligation). T (goodFor sheet d p o)) (sym g.is)
-      (both-from (wide sheet d) _ g.holds-range (subst (λ (c : Option (List ℕ)). T (goodProposal d g.obligation c)) (sym g.proposed) (go (d.outcome g.obligation.facts g.obligation.goal g.certificate) g.outcome-good)))
+      subst (λ (o : Option Obligation). T (good_for sheet d p o)) (sym g.is)
+      (both-from (wide sheet d) _ g.holds-range (subst (λ (c : Option (List ℕ)). T (good_proposal d g.obligation c)) (sym g.proposed) (go (d.outcome g.obligation.facts g.obligation.goal g.certificate) g.outcome-good)))
     where
       go : (r : Outcome) → Good r → T (is_ok r)
       go (Ok u) h = tt
@@ -72,14 +72,14 @@ module _ (sheet : Sheet) where
   on-added true m list n h = on-tail m list n h
   on-added false m list n h = h
 
-  listed-before : (history : List Step) (list : List ℕ) (n : ℕ) → T (on list n) → T (on (plainAfter sheet list history) n)
-  unfolding plainAfter
+  listed-before : (history : List Step) (list : List ℕ) (n : ℕ) → T (on list n) → T (on (plain_after sheet list history) n)
+  unfolding plain_after
   listed-before [] list n h = h
   listed-before (settling m d law p b ∷ history) list n h = listed-before history _ n (on-added (good sheet m d p) m list n h)
   listed-before (ready ∷ history) list n h = listed-before history list n h
 
-  pub listed-from : (history : List Step) (list : List ℕ) (n : ℕ) → HadGood sheet n history → T (on (plainAfter sheet list history) n)
-  unfolding plainAfter
+  pub listed-from : (history : List Step) (list : List ℕ) (n : ℕ) → HadGood sheet n history → T (on (plain_after sheet list history) n)
+  unfolding plain_after
   listed-from [] list n h = absurd h
   listed-from (settling m d law p b ∷ history) list n h =
       ⊎_elim
@@ -91,8 +91,8 @@ module _ (sheet : Sheet) where
       go false t e = absurd t
   listed-from (ready ∷ history) list n h = listed-from history list n h
 
-  pub listed-to : (history : List Step) (list : List ℕ) (n : ℕ) → T (on (plainAfter sheet list history) n) → T (on list n) ⊎ HadGood sheet n history
-  unfolding plainAfter
+  pub listed-to : (history : List Step) (list : List ℕ) (n : ℕ) → T (on (plain_after sheet list history) n) → T (on list n) ⊎ HadGood sheet n history
+  unfolding plain_after
   listed-to [] list n h = inl h
   listed-to (settling m d law p b ∷ history) list n h =
       ⊎_elim
@@ -110,15 +110,15 @@ module _ (sheet : Sheet) where
     pub size : length draft.marks ≡ length sheet.obligations
     pub same : (n : ℕ) → marked draft.marks n ≡ on list n
 
-  judged-mark : (d : Domain) (p : Prover) (n : ℕ) (marks : List Bool) (o : Option Obligation) → markIf (asked sheet d p o) n marks ≡ cond (goodFor sheet d p o) (set marks n true) marks
+  judged-mark : (d : Domain) (p : Prover) (n : ℕ) (marks : List Bool) (o : Option Obligation) → mark_if (asked sheet d p o) n marks ≡ cond (good_for sheet d p o) (set marks n true) marks
   judged-mark d p n marks None = refl
   judged-mark d p n marks (Some o) = go (wide sheet d) (p.proposes o.facts o.goal)
     where
-      last : (r : Outcome) → markIf (judged o.place r) n marks ≡ cond (is_ok r) (set marks n true) marks
+      last : (r : Outcome) → mark_if (judged o.place r) n marks ≡ cond (is_ok r) (set marks n true) marks
       last (Ok u) = refl
       last (Err f) = refl
 
-      go : (b : Bool) (c : Option (List ℕ)) → markIf (cond b (verified d o c) (Err Narrow)) n marks ≡ cond (b && goodProposal d o c) (set marks n true) marks
+      go : (b : Bool) (c : Option (List ℕ)) → mark_if (cond b (verified d o c) (Err Narrow)) n marks ≡ cond (b && good_proposal d o c) (set marks n true) marks
       go true None = refl
       go true (Some c) = last (d.outcome o.facts o.goal c)
       go false c = refl
@@ -138,9 +138,9 @@ module _ (sheet : Sheet) where
 
   marks-step : (draft : Draft) (list : List ℕ) (n : ℕ) (d : Domain) (p : Prover) → Marks draft list → Marks (settled draft n d p) (cond (good sheet n d p) (n ∷ list) list)
   marks-step draft list n d p h =
-      let e : markIf (settle draft n d p) n draft.marks ≡ cond (good sheet n d p) (set draft.marks n true) draft.marks =
-      ap (λ (s : Sheet). markIf (asked s d p (slice_get s.obligations n)) n draft.marks) h.sheet-is ∙ judged-mark d p n draft.marks (slice_get sheet.obligations n) in
-      go (good sheet n d p) (good-to n d p) (markIf (settle draft n d p) n draft.marks) e
+      let e : mark_if (settle draft n d p) n draft.marks ≡ cond (good sheet n d p) (set draft.marks n true) draft.marks =
+      ap (λ (s : Sheet). mark_if (asked s d p (slice_get s.obligations n)) n draft.marks) h.sheet-is ∙ judged-mark d p n draft.marks (slice_get sheet.obligations n) in
+      go (good sheet n d p) (good-to n d p) (mark_if (settle draft n d p) n draft.marks) e
     where
       go : (b : Bool) → (T b → GoodSettling sheet n d p) → (marks : List Bool) → marks ≡ cond b (set draft.marks n true) draft.marks → Marks (record { sheet = draft.sheet; marks = marks }) (cond b (n ∷ list) list)
       go true f marks e =
@@ -152,13 +152,13 @@ module _ (sheet : Sheet) where
           }
       go false f marks e = record { sheet-is = h.sheet-is; size = ap length e ∙ h.size; same = λ k. ap (λ (ms : List Bool). marked ms k) e ∙ h.same k }
 
-  pub marks-after : (history : List Step) (draft : Draft) (list : List ℕ) → Marks draft list → Marks (draftAfter draft history) (plainAfter sheet list history)
-  unfolding draftAfter plainAfter
+  pub marks-after : (history : List Step) (draft : Draft) (list : List ℕ) → Marks draft list → Marks (draft_after draft history) (plain_after sheet list history)
+  unfolding draft_after plain_after
   marks-after [] draft list h = h
   marks-after (settling n d law p b ∷ history) draft list h = marks-after history (settled draft n d p) _ (marks-step draft list n d p h)
   marks-after (ready ∷ history) draft list h = marks-after history draft list h
 
-  pub marks-fresh : Marks (draftOf sheet) []
+  pub marks-fresh : Marks (draft_of sheet) []
   unfolding on
   marks-fresh = record { sheet-is = refl; size = length-replicate (length sheet.obligations) false; same = go (length sheet.obligations) }
     where

@@ -6,12 +6,12 @@ use Rattle.rows.specs.Meaning.{Follows}
 use Rattle.language.specs.declared.part.Part.{Part}
 use Rattle.language.specs.declared.refusal.Refusal.{Refusal}
 use Rattle.language.specs.declared.refusal.Refusal.TheVariants.{Range}
-use Rattle.language.specs.Tree.{Expr, Rule, noExpr}
-use Rattle.language.specs.Walking.{Obligation, walkRules, obligationsOf, firstFault}
+use Rattle.language.specs.Tree.{Expr, Rule, no_expr}
+use Rattle.language.specs.Walking.{Obligation, walk_rules, obligations_of, first_fault}
 use Rattle.language.specs.Running.{in_range, Dropped}
-use Rattle.language.specs.Drafts.{Sheet, refusalOf, sheetIf, sheetOf, draftOf, isGuard, marked, firstOpen, answered}
-use Rattle.language.specs.Histories.{Step, draftAfter, plainAfter, on}
-use Rattle.language.specs.Entering.{program_of, runIfOpen}
+use Rattle.language.specs.Drafts.{Sheet, refusal_of, sheet_if, sheet_of, draft_of, is_guard, marked, first_open, answered}
+use Rattle.language.specs.Histories.{Step, draft_after, plain_after, on}
+use Rattle.language.specs.Entering.{program_of, run_if_open}
 use Rattle.language.specs.Promise.{HadGood, Answers, Agrees, Promise}
 use Rattle.language.proofs.Walks.{rules-numbered}
 use Rattle.language.proofs.Duties.{Fine}
@@ -26,32 +26,32 @@ use Rattle.language.proofs.Tests.{both-from, both_left, both_right, cond-none}
 record Proper (sheet : Sheet) : Type 0 where
   low : sheet.low ≤ℤ pos 0
   high : pos 0 ≤ℤ sheet.high
-  no-fault : firstFault (walkRules sheet.rules 0 sheet.rules).notes ≡ None
-  bodies-are : sheet.bodies ≡ (walkRules sheet.rules 0 sheet.rules).bodies
-  obligations-are : sheet.obligations ≡ obligationsOf (walkRules sheet.rules 0 sheet.rules).notes
+  no-fault : first_fault (walk_rules sheet.rules 0 sheet.rules).notes ≡ None
+  bodies-are : sheet.bodies ≡ (walk_rules sheet.rules 0 sheet.rules).bodies
+  obligations-are : sheet.obligations ≡ obligations_of (walk_rules sheet.rules 0 sheet.rules).notes
 
-proper : (low high : ℤ) (rules : List Rule) → Proper (sheetOf low high rules)
-proper low high rules = go (refusalOf low high rules) refl
+proper : (low high : ℤ) (rules : List Rule) → Proper (sheet_of low high rules)
+proper low high rules = go (refusal_of low high rules) refl
   where
-    unfold-none : (refusalOf low high rules ≡ None) → T (le_z low (pos 0) && le_z (pos 0) high) × (firstFault (walkRules rules 0 rules).notes ≡ None)
-    unfold-none e = unfold refusalOf in cond-none (le_z low (pos 0) && le_z (pos 0) high) (firstFault (walkRules rules 0 rules).notes) Range e
+    unfold-none : (refusal_of low high rules ≡ None) → T (le_z low (pos 0) && le_z (pos 0) high) × (first_fault (walk_rules rules 0 rules).notes ≡ None)
+    unfold-none e = unfold refusal_of in cond-none (le_z low (pos 0) && le_z (pos 0) high) (first_fault (walk_rules rules 0 rules).notes) Range e
 
-    go : (o : Option Refusal) → refusalOf low high rules ≡ o → Proper (sheetIf o low high rules)
+    go : (o : Option Refusal) → refusal_of low high rules ≡ o → Proper (sheet_if o low high rules)
     go None e =
         let t = unfold-none e in
         record { low = le_z_yes (both_left (le_z low (pos 0)) _ t.0); high = le_z_yes (both_right (le_z low (pos 0)) _ t.0); no-fault = t.1; bodies-are = refl; obligations-are = refl }
-    go (Some r) e = unfold walkRules firstFault obligationsOf in
+    go (Some r) e = unfold walk_rules first_fault obligations_of in
         record { low = le_z_yes tt; high = le_z_yes tt; no-fault = refl; bodies-are = refl; obligations-are = refl }
 
 module _ (sheet : Sheet) (p : Proper sheet) (history : List Step) (S : Dropped) (list : List ℕ) (same : (n : ℕ) → S n ≡ on list n)
-    (had : (n : ℕ) → T (on list n) → HadGood sheet n history) (closed : firstOpen 0 sheet.obligations S ≡ None) where
-  fine : AllByRecursion (Fine sheet.low sheet.high S) (walkRules sheet.rules 0 sheet.rules).notes
+    (had : (n : ℕ) → T (on list n) → HadGood sheet n history) (closed : first_open 0 sheet.obligations S ≡ None) where
+  fine : AllByRecursion (Fine sheet.low sheet.high S) (walk_rules sheet.rules 0 sheet.rules).notes
   fine =
       let w = rules-numbered sheet.rules 0 sheet.rules in
-      fine-notes sheet.low sheet.high S 0 w.0 (walkRules sheet.rules 0 sheet.rules).notes w.1.counts p.no-fault
+      fine-notes sheet.low sheet.high S 0 w.0 (walk_rules sheet.rules 0 sheet.rules).notes w.1.counts p.no-fault
       (λ i o e.
       let is : slice_get sheet.obligations i ≡ Some o = ap (λ (os : List Obligation). slice_get os i) p.obligations-are ∙ e in
-      subst (λ (j : ℕ). (T (isGuard o.duty) → T (S j)) × (T (S j) → Follows sheet.low sheet.high o.facts o.goal)) (sym (add-zero i))
+      subst (λ (j : ℕ). (T (is_guard o.duty) → T (S j)) × (T (S j) → Follows sheet.low sheet.high o.facts o.goal)) (sym (add-zero i))
       ((λ g. all_closed S sheet.obligations closed i o is g), (λ t. settled-follows sheet i history (had i (subst T (same i) t)) o is)))
 
   zero-fits : T (in_range sheet.low sheet.high (pos 0))
@@ -60,12 +60,12 @@ module _ (sheet : Sheet) (p : Proper sheet) (history : List Step) (S : Dropped) 
   body_ok : (N f : ℕ) → T (ltb f (length sheet.rules)) → BodyOk sheet.rules (program_of sheet) S N f
   body_ok N f l =
       let b = bodies sheet.low sheet.high S sheet.rules 0 sheet.rules fine f (ltb→lt f (length sheet.rules) l) in
-      record { count = b.count; body = ap (λ (es : List Expr). get_or es f noExpr) p.bodies-are ∙ b.body; start = b.start; notes = b.notes }
+      record { count = b.count; body = ap (λ (es : List Expr). get_or es f no_expr) p.bodies-are ∙ b.body; start = b.start; notes = b.notes }
 
   open-agree : (f fuel : ℕ) (xs : List ℤ) (ps : List Part) (cells : List ℤ)
-      → Agrees sheet list (runIfOpen (firstOpen 0 sheet.obligations S) sheet S f fuel xs ps cells) (runIfOpen (firstOpen 0 sheet.obligations S) sheet full f fuel xs ps cells)
+      → Agrees sheet list (run_if_open (first_open 0 sheet.obligations S) sheet S f fuel xs ps cells) (run_if_open (first_open 0 sheet.obligations S) sheet full f fuel xs ps cells)
   open-agree f fuel xs ps cells =
-      subst (λ (o : Option Refusal). Agrees sheet list (runIfOpen o sheet S f fuel xs ps cells) (runIfOpen o sheet full f fuel xs ps cells)) (sym closed)
+      subst (λ (o : Option Refusal). Agrees sheet list (run_if_open o sheet S f fuel xs ps cells) (run_if_open o sheet full f fuel xs ps cells)) (sym closed)
       (runs-agree sheet list S same p.low zero-fits body_ok f fuel xs ps cells)
 
 answered-yes : (o : Option Refusal) → answered o ≡ Ok tt → o ≡ None
@@ -74,19 +74,19 @@ answered-yes (Some r) e = let no : ◌≡◌ {A = ℕ} 0 1 = cc in let bad : ⊥
 
 pub theorem : Promise
 theorem low high rules history =
-    let sheet = sheetOf low high rules in
-    let list = plainAfter sheet [] history in
-    let draft = draftAfter (draftOf sheet) history in
-    let m = marks-after sheet history (draftOf sheet) [] (marks-fresh sheet) in
+    let sheet = sheet_of low high rules in
+    let list = plain_after sheet [] history in
+    let draft = draft_after (draft_of sheet) history in
+    let m = marks-after sheet history (draft_of sheet) [] (marks-fresh sheet) in
     let had = λ (n : ℕ) (t : T (on list n)). ⊎_elim (λ x. absurd (nothing n x)) (λ (x : HadGood sheet n history). x) (listed-to sheet history [] n t) in
     record {
       listed = λ n. (had n, listed-from sheet history [] n);
       marks = m.same;
-      answer = subst (λ (s : Sheet). Answers sheet list (answered (firstOpen 0 s.obligations (marked draft.marks)))) (sym m.sheet-is) (answers sheet list (marked draft.marks) m.same);
+      answer = subst (λ (s : Sheet). Answers sheet list (answered (first_open 0 s.obligations (marked draft.marks)))) (sym m.sheet-is) (answers sheet list (marked draft.marks) m.same);
       runs = λ yes-answer f fuel xs ps cells.
-          subst (λ (s : Sheet). Agrees sheet list (runIfOpen (firstOpen 0 s.obligations (marked draft.marks)) s (marked draft.marks) f fuel xs ps cells) (runIfOpen (firstOpen 0 s.obligations (marked draft.marks)) s full f fuel xs ps cells)) (sym m.sheet-is)
+          subst (λ (s : Sheet). Agrees sheet list (run_if_open (first_open 0 s.obligations (marked draft.marks)) s (marked draft.marks) f fuel xs ps cells) (run_if_open (first_open 0 s.obligations (marked draft.marks)) s full f fuel xs ps cells)) (sym m.sheet-is)
           (open-agree sheet (proper low high rules) history (marked draft.marks) list m.same had
-          (ap (λ (s : Sheet). firstOpen 0 s.obligations (marked draft.marks)) (sym m.sheet-is) ∙ answered-yes _ yes-answer) f fuel xs ps cells);
+          (ap (λ (s : Sheet). first_open 0 s.obligations (marked draft.marks)) (sym m.sheet-is) ∙ answered-yes _ yes-answer) f fuel xs ps cells);
     }
   where
     nothing : (n : ℕ) → T (on [] n) → ⊥

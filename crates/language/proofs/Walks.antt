@@ -8,12 +8,12 @@ use Rattle.language.specs.declared.term.Term.{Term}
 use Rattle.language.specs.declared.owed.Duty.{Duty}
 use Rattle.language.specs.declared.owed.Duty.TheVariants.{Below, Above, Guard}
 use Rattle.language.specs.declared.refusal.Refusal.{Refusal}
-use Rattle.language.specs.Tree.{Condition, Site, Expr, num, name, calc, read, call, bind, test, put, claim, Args, end, value, lent, Rule, ruleAt}
-use Rattle.language.specs.Terms.{zeroTerm, quantity, worth, termAt, worked, constant, limited}
-use Rattle.language.specs.Comparing.{at_most, rows, otherwise, satisfied, conditionRows, conditionsRows}
-use Rattle.language.specs.Walking.{Note, owes, fault, Stand, Scope, Found, Got, Gots, limit, owe, oweAll, assume, assumeAll, oweChecks, counted, knowing, binding, fresh, freshWith, orFresh, Mode, infer, check, finish, join, walk, walks, start_names, startScope, startKnown, startStand, walkBody, walkRules}
+use Rattle.language.specs.Tree.{Condition, Site, Expr, num, name, calc, read, call, bind, test, put, claim, Args, end, value, lent, Rule, rule_at}
+use Rattle.language.specs.Terms.{zero_term, quantity, worth, term_at, worked, constant, limited}
+use Rattle.language.specs.Comparing.{at_most, rows, otherwise, satisfied, condition_rows, conditions_rows}
+use Rattle.language.specs.Walking.{Note, owes, fault, Stand, Scope, Found, Got, Gots, limit, owe, owe_all, assume, assume_all, owe_checks, counted, knowing, binding, fresh, fresh_with, or_fresh, Mode, infer, check, finish, join, walk, walks, start_names, start_scope, start_known, start_stand, walk_body, walk_rules}
 use Rattle.language.proofs.Worths.{Agree, agree_less, Stable, stable-more, stable-constant, stable-quantity, stable-worked, StableAll, stables-more, stables-nil, stables-cons, stables-push, limited-is}
-use Rattle.language.proofs.Assigning.{quantities-stable, atLists-stable, lengths-firm}
+use Rattle.language.proofs.Assigning.{quantities-stable, at_lists-stable, lengths-firm}
 use Rattle.language.proofs.Comparisons.{IfMade, Firm, IfFirm, rows-firm, otherwise-firm, condition-firm, condition-from}
 
 -- facts that are met, and that mention quantities below n only
@@ -40,19 +40,19 @@ assume-firm n place F [] h k = h
 assume-firm n place F (None ∷ rs) h k = assume-firm n place F rs h k.1
 assume-firm n place F (Some r ∷ rs) h k = assume-firm n place (F ++ r ∷ []) rs (All-push (Firm n) F r h (k.0 r refl)) k.1
 
-pub assumeAll-meets : (q : Assignment) (at : Condition → ℕ) (ts : List Term) (r : Term) (xs : List ℤ) (v : ℤ) → map (worth q) ts ≡ xs → worth q r ≡ v
-    → (F : List Row) (cs : List Condition) → MeetsAll q F → AllByRecursion (λ c. T (satisfied xs v c)) cs → MeetsAll q (assumeAll at ts r F cs).facts
-unfolding assumeAll
-assumeAll-meets q at ts r xs v ex ev F [] h k = h
-assumeAll-meets q at ts r xs v ex ev F (c ∷ cs) h k =
-    assumeAll-meets q at ts r xs v ex ev (assume (at c) F (conditionRows ts r c)).facts cs (assume-meets q (at c) F (conditionRows ts r c) h (condition-from q ts r xs v ex ev c k.0)) k.1
+pub assume_all-meets : (q : Assignment) (at : Condition → ℕ) (ts : List Term) (r : Term) (xs : List ℤ) (v : ℤ) → map (worth q) ts ≡ xs → worth q r ≡ v
+    → (F : List Row) (cs : List Condition) → MeetsAll q F → AllByRecursion (λ c. T (satisfied xs v c)) cs → MeetsAll q (assume_all at ts r F cs).facts
+unfolding assume_all
+assume_all-meets q at ts r xs v ex ev F [] h k = h
+assume_all-meets q at ts r xs v ex ev F (c ∷ cs) h k =
+    assume_all-meets q at ts r xs v ex ev (assume (at c) F (condition_rows ts r c)).facts cs (assume-meets q (at c) F (condition_rows ts r c) h (condition-from q ts r xs v ex ev c k.0)) k.1
 
-pub assumeAll-firm : (n : ℕ) (at : Condition → ℕ) (ts : List Term) (r : Term) → StableAll n ts → Stable n r
-    → (F : List Row) (cs : List Condition) → AllByRecursion (Firm n) F → AllByRecursion (Firm n) (assumeAll at ts r F cs).facts
-unfolding assumeAll
-assumeAll-firm n at ts r a b F [] h = h
-assumeAll-firm n at ts r a b F (c ∷ cs) h =
-    assumeAll-firm n at ts r a b (assume (at c) F (conditionRows ts r c)).facts cs (assume-firm n (at c) F (conditionRows ts r c) h (condition-firm n ts r a b c))
+pub assume_all-firm : (n : ℕ) (at : Condition → ℕ) (ts : List Term) (r : Term) → StableAll n ts → Stable n r
+    → (F : List Row) (cs : List Condition) → AllByRecursion (Firm n) F → AllByRecursion (Firm n) (assume_all at ts r F cs).facts
+unfolding assume_all
+assume_all-firm n at ts r a b F [] h = h
+assume_all-firm n at ts r a b F (c ∷ cs) h =
+    assume_all-firm n at ts r a b (assume (at c) F (condition_rows ts r c)).facts cs (assume-firm n (at c) F (condition_rows ts r c) h (condition-firm n ts r a b c))
 
 -- the obligations among notes have the numbers from k up to m
 abbrev pub Counts : ℕ → List Note → ℕ → Type 0
@@ -84,18 +84,18 @@ unfolding owe
 numbered-owe duty place work F k None = record { counts = refl }
 numbered-owe duty place work F k (Some r) = record { counts = (refl, refl) }
 
-numbered-oweAll : (place : ℕ) (F : List Row) (k : ℕ) (rs : List (Option Row)) → Numbered k (oweAll place F k rs).notes (oweAll place F k rs).count
-unfolding oweAll
-numbered-oweAll place F k [] = numbered-nil k
-numbered-oweAll place F k (r ∷ rs) =
+numbered-owe_all : (place : ℕ) (F : List Row) (k : ℕ) (rs : List (Option Row)) → Numbered k (owe_all place F k rs).notes (owe_all place F k rs).count
+unfolding owe_all
+numbered-owe_all place F k [] = numbered-nil k
+numbered-owe_all place F k (r ∷ rs) =
     let o = owe Guard place place F k r in
-    numbered-append o.count o.notes (oweAll place F o.count rs).notes (numbered-owe Guard place place F k r) (numbered-oweAll place F o.count rs)
+    numbered-append o.count o.notes (owe_all place F o.count rs).notes (numbered-owe Guard place place F k r) (numbered-owe_all place F o.count rs)
 
-numbered-oweChecks : (site : Site) (work : ℕ) (s : Stand) (t u : Term) → Numbered s.count (oweChecks site work s t u).notes (oweChecks site work s t u).count
-unfolding oweChecks
-numbered-oweChecks site work s t u =
-    let b = owe Below site.place work s.facts s.count (at_most (pos 0) zeroTerm t) in
-    numbered-append b.count b.notes _ (numbered-owe Below site.place work s.facts s.count (at_most (pos 0) zeroTerm t)) (numbered-owe Above site.place work s.facts b.count (at_most (pos 1) t u))
+numbered-owe_checks : (site : Site) (work : ℕ) (s : Stand) (t u : Term) → Numbered s.count (owe_checks site work s t u).notes (owe_checks site work s t u).count
+unfolding owe_checks
+numbered-owe_checks site work s t u =
+    let b = owe Below site.place work s.facts s.count (at_most (pos 0) zero_term t) in
+    numbered-append b.count b.notes _ (numbered-owe Below site.place work s.facts s.count (at_most (pos 0) zero_term t)) (numbered-owe Above site.place work s.facts b.count (at_most (pos 1) t u))
 
 pub numbered-assume : (k place : ℕ) (F : List Row) (rs : List (Option Row)) → Numbered k (assume place F rs).notes k
 unfolding assume
@@ -103,11 +103,11 @@ numbered-assume k place F [] = numbered-nil k
 numbered-assume k place F (None ∷ rs) = record { counts = (numbered-assume k place F rs).counts }
 numbered-assume k place F (Some r ∷ rs) = numbered-append k (limit (ltb (length F) 24) _) _ (numbered-limit k (ltb (length F) 24) _) (numbered-assume k place (F ++ r ∷ []) rs)
 
-pub numbered-assumeAll : (k : ℕ) (at : Condition → ℕ) (ts : List Term) (r : Term) (F : List Row) (cs : List Condition) → Numbered k (assumeAll at ts r F cs).notes k
-unfolding assumeAll
-numbered-assumeAll k at ts r F [] = numbered-nil k
-numbered-assumeAll k at ts r F (c ∷ cs) =
-    numbered-append k (assume (at c) F (conditionRows ts r c)).notes _ (numbered-assume k (at c) F (conditionRows ts r c)) (numbered-assumeAll k at ts r (assume (at c) F (conditionRows ts r c)).facts cs)
+pub numbered-assume_all : (k : ℕ) (at : Condition → ℕ) (ts : List Term) (r : Term) (F : List Row) (cs : List Condition) → Numbered k (assume_all at ts r F cs).notes k
+unfolding assume_all
+numbered-assume_all k at ts r F [] = numbered-nil k
+numbered-assume_all k at ts r F (c ∷ cs) =
+    numbered-append k (assume (at c) F (condition_rows ts r c)).notes _ (numbered-assume k (at c) F (condition_rows ts r c)) (numbered-assume_all k at ts r (assume (at c) F (condition_rows ts r c)).facts cs)
 
 -- what is so of a walk from the next quantity n and the number k on
 pub record OkStand (n : ℕ) (s : Stand) : Type 0 where
@@ -146,20 +146,20 @@ module _ (n k place : ℕ) (s : Stand) (notes : List Note) (o : OkStand n s) (b 
     numbered = numbered-append s.count notes _ b (numbered-limit s.count (ltb s.next 16) _);
   }
 
-  ok-orFresh : (t : Option Term) → ((u : Term) → t ≡ Some u → Stable s.next u) → Ok n k (orFresh place t s notes)
-  unfolding orFresh
-  ok-orFresh None h = ok-fresh
-  ok-orFresh (Some u) h = record { stand = o; term = h u refl; numbered = b }
+  ok-or_fresh : (t : Option Term) → ((u : Term) → t ≡ Some u → Stable s.next u) → Ok n k (or_fresh place t s notes)
+  unfolding or_fresh
+  ok-or_fresh None h = ok-fresh
+  ok-or_fresh (Some u) h = record { stand = o; term = h u refl; numbered = b }
 
-  ok-freshWith : (ts : List Term) (cs : List Condition) → StableAll s.next ts → Ok n k (freshWith place ts cs s notes)
-  unfolding freshWith fresh
-  ok-freshWith ts cs h = record {
+  ok-fresh_with : (ts : List Term) (cs : List Condition) → StableAll s.next ts → Ok n k (fresh_with place ts cs s notes)
+  unfolding fresh_with fresh
+  ok-fresh_with ts cs h = record {
     stand = record {
       up = omega (arith, o.up);
-      facts = assumeAll-firm (suc s.next) (λ c. place) ts (quantity s.next) (stables-more s.next (suc s.next) ts (omega arith) h) (stable-quantity s.next) s.facts cs (firms-more s.next (suc s.next) (omega arith) s.facts o.facts);
+      facts = assume_all-firm (suc s.next) (λ c. place) ts (quantity s.next) (stables-more s.next (suc s.next) ts (omega arith) h) (stable-quantity s.next) s.facts cs (firms-more s.next (suc s.next) (omega arith) s.facts o.facts);
     };
     term = stable-quantity s.next;
-    numbered = numbered-append s.count (notes ++ limit (ltb s.next 16) _) _ (numbered-append s.count notes _ b (numbered-limit s.count (ltb s.next 16) _)) (numbered-assumeAll s.count (λ c. place) ts (quantity s.next) s.facts cs);
+    numbered = numbered-append s.count (notes ++ limit (ltb s.next 16) _) _ (numbered-append s.count notes _ b (numbered-limit s.count (ltb s.next 16) _)) (numbered-assume_all s.count (λ c. place) ts (quantity s.next) s.facts cs);
   }
 
   ok-join : (m : Mode) → Ok n k (join m place s notes)
@@ -173,7 +173,7 @@ ok-finish n k infer place g h = h
 ok-finish n k (check ts cs) place g h = record {
   stand = record { up = h.stand.up; facts = h.stand.facts };
   term = h.term;
-  numbered = numbered-append g.stand.count g.notes _ h.numbered (numbered-oweAll place g.stand.facts g.stand.count (conditionsRows ts g.term cs));
+  numbered = numbered-append g.stand.count g.notes _ h.numbered (numbered-owe_all place g.stand.facts g.stand.count (conditions_rows ts g.term cs));
 }
 
 -- from a stand on
@@ -188,31 +188,31 @@ mutual
 
   pub walk-ok : (R : List Rule) (m : Mode) (Γ : Scope) (s : Stand) (e : Expr) → OkScope s.next Γ → AllByRecursion (Firm s.next) s.facts → Ok s.next s.count (found (walk R m Γ s e))
   walk-ok R m Γ s (num p n) c f =
-      ok-finish s.next s.count m p _ (ok-orFresh s.next s.count p s [] (here s f) (numbered-nil s.count) (limited (constant (pos n))) (λ u e. subst (Stable s.next) (limited-is (constant (pos n)) u e) (stable-constant s.next (pos n))))
+      ok-finish s.next s.count m p _ (ok-or_fresh s.next s.count p s [] (here s f) (numbered-nil s.count) (limited (constant (pos n))) (λ u e. subst (Stable s.next) (limited-is (constant (pos n)) u e) (stable-constant s.next (pos n))))
   walk-ok R m Γ s (name p i) c f = ok-finish s.next s.count m p _ (record { stand = here s f; term = c.names i; numbered = numbered-nil s.count })
   walk-ok R m Γ s (calc p o a b) c f =
       let g = walk R infer Γ s a in
       let gk = walk-ok R infer Γ s a c f in
       let h = walk R infer Γ g.stand b in
       let hk = walk-ok R infer Γ g.stand b (scope-more s.next g.stand.next Γ gk.stand.up c) gk.stand.facts in
-      ok-finish s.next s.count m p _ (ok-orFresh s.next s.count p h.stand (g.notes ++ h.notes) (from s.next g.stand h.stand gk.stand hk.stand)
+      ok-finish s.next s.count m p _ (ok-or_fresh s.next s.count p h.stand (g.notes ++ h.notes) (from s.next g.stand h.stand gk.stand hk.stand)
       (numbered-append g.stand.count g.notes h.notes gk.numbered hk.numbered) (worked o g.term h.term)
       (λ v e. stable-worked h.stand.next o g.term h.term v e (stable-more g.stand.next h.stand.next g.term hk.stand.up gk.term) hk.term))
   walk-ok R m Γ s (read site e) c f =
       let g = walk R infer Γ s e in
       let gk = walk-ok R infer Γ s e c f in
-      let u = termAt Γ.lengths site.list in
-      let o = oweChecks site site.place g.stand g.term u in
+      let u = term_at Γ.lengths site.list in
+      let o = owe_checks site site.place g.stand g.term u in
       ok-finish s.next s.count m site.place _ (ok-fresh s.next s.count site.place (counted g.stand o.count) (g.notes ++ o.notes) (record { up = gk.stand.up; facts = gk.stand.facts })
-      (numbered-append g.stand.count g.notes o.notes gk.numbered (numbered-oweChecks site site.place g.stand g.term u)))
+      (numbered-append g.stand.count g.notes o.notes gk.numbered (numbered-owe_checks site site.place g.stand g.term u)))
   walk-ok R m Γ s (call p fn es) c f =
       let g = walks R Γ s es in
       let gk = walks-ok R Γ s es c f in
-      let rs = conditionsRows g.terms zeroTerm (ruleAt R fn).needs in
-      let o = oweAll p g.stand.facts g.stand.count rs in
-      ok-finish s.next s.count m p _ (ok-freshWith s.next s.count p (counted g.stand o.count) _ (record { up = gk.stand.up; facts = gk.stand.facts })
-      (numbered-append g.stand.count (limit _ _ ++ g.notes) o.notes (numbered-append s.count (limit _ _) g.notes (numbered-limit s.count _ _) gk.numbered) (numbered-oweAll p g.stand.facts g.stand.count rs))
-      g.terms (ruleAt R fn).gives gk.terms)
+      let rs = conditions_rows g.terms zero_term (rule_at R fn).needs in
+      let o = owe_all p g.stand.facts g.stand.count rs in
+      ok-finish s.next s.count m p _ (ok-fresh_with s.next s.count p (counted g.stand o.count) _ (record { up = gk.stand.up; facts = gk.stand.facts })
+      (numbered-append g.stand.count (limit _ _ ++ g.notes) o.notes (numbered-append s.count (limit _ _) g.notes (numbered-limit s.count _ _) gk.numbered) (numbered-owe_all p g.stand.facts g.stand.count rs))
+      g.terms (rule_at R fn).gives gk.terms)
   walk-ok R m Γ s (bind p a b) c f =
       let g = walk R infer Γ s a in
       let gk = walk-ok R infer Γ s a c f in
@@ -248,20 +248,20 @@ mutual
       let cg = scope-more s.next g.stand.next Γ gk.stand.up c in
       let h = walk R infer Γ g.stand b in
       let hk = walk-ok R infer Γ g.stand b cg gk.stand.facts in
-      let u = termAt Γ.lengths site.list in
-      let o = oweChecks site p h.stand g.term u in
+      let u = term_at Γ.lengths site.list in
+      let o = owe_checks site p h.stand g.term u in
       let x = walk R m Γ (counted h.stand o.count) e in
       let xk = walk-ok R m Γ (counted h.stand o.count) e (scope-more g.stand.next h.stand.next Γ hk.stand.up cg) hk.stand.facts in
       record {
         stand = record { up = le_trans gk.stand.up (le_trans hk.stand.up xk.stand.up); facts = xk.stand.facts };
         term = xk.term;
         numbered = numbered-append h.stand.count (g.notes ++ h.notes) (o.notes ++ x.notes) (numbered-append g.stand.count g.notes h.notes gk.numbered hk.numbered)
-            (numbered-append o.count o.notes x.notes (numbered-oweChecks site p h.stand g.term u) xk.numbered);
+            (numbered-append o.count o.notes x.notes (numbered-owe_checks site p h.stand g.term u) xk.numbered);
       }
   walk-ok R m Γ s (claim p e cs) c f =
       let g = walk R (check Γ.names cs) Γ s e in
       let gk = walk-ok R (check Γ.names cs) Γ s e c f in
-      ok-finish s.next s.count m p _ (ok-freshWith s.next s.count p (counted s g.stand.count) g.notes (record { up = le_refl s.next; facts = f }) gk.numbered Γ.names cs c.names)
+      ok-finish s.next s.count m p _ (ok-fresh_with s.next s.count p (counted s g.stand.count) g.notes (record { up = le_refl s.next; facts = f }) gk.numbered Γ.names cs c.names)
 
   pub walks-ok : (R : List Rule) (Γ : Scope) (s : Stand) (es : Args) → OkScope s.next Γ → AllByRecursion (Firm s.next) s.facts → Oks s.next s.count (walks R Γ s es)
   walks-ok R Γ s end c f = record { stand = here s f; terms = stables-nil s.next; numbered = numbered-nil s.count }
@@ -278,34 +278,34 @@ mutual
   walks-ok R Γ s (lent l es) c f =
       let h = walks R Γ s es in
       let hk = walks-ok R Γ s es c f in
-      record { stand = hk.stand; terms = stables-cons h.stand.next (termAt Γ.lengths l) h.terms (stable-more s.next h.stand.next (termAt Γ.lengths l) hk.stand.up (c.lengths l)) hk.terms; numbered = hk.numbered }
+      record { stand = hk.stand; terms = stables-cons h.stand.next (term_at Γ.lengths l) h.terms (stable-more s.next h.stand.next (term_at Γ.lengths l) hk.stand.up (c.lengths l)) hk.terms; numbered = hk.numbered }
 
 -- where a body begins, and rule after rule
-pub start-scope : (r : Rule) → OkScope (length r.params) (startScope r)
+pub start-scope : (r : Rule) → OkScope (length r.params) (start_scope r)
 start-scope r =
     let k = length r.params in
     let stable = quantities-stable k 0 k (omega arith) in
-    record { names = stable; lengths = atLists-stable k r.params (start_names r) stable }
+    record { names = stable; lengths = at_lists-stable k r.params (start_names r) stable }
 
-pub start-firm : (r : Rule) → AllByRecursion (Firm (length r.params)) (startKnown r).facts
-unfolding startKnown
+pub start-firm : (r : Rule) → AllByRecursion (Firm (length r.params)) (start_known r).facts
+unfolding start_known
 start-firm r =
     let k = length r.params in
-    assumeAll-firm k (λ c. c.place) (start_names r) zeroTerm (start-scope r).names (stable-constant k (pos 0)) _ r.needs
-    (assume-firm k r.place [] (map (at_most (pos 0) zeroTerm) (startScope r).lengths) tt (lengths-firm k (startScope r).lengths (start-scope r).lengths))
+    assume_all-firm k (λ c. c.place) (start_names r) zero_term (start-scope r).names (stable-constant k (pos 0)) _ r.needs
+    (assume-firm k r.place [] (map (at_most (pos 0) zero_term) (start_scope r).lengths) tt (lengths-firm k (start_scope r).lengths (start-scope r).lengths))
 
-start-numbered : (k : ℕ) (r : Rule) → Numbered k (startKnown r).notes k
-unfolding startKnown
+start-numbered : (k : ℕ) (r : Rule) → Numbered k (start_known r).notes k
+unfolding start_known
 start-numbered k r =
-    let a = assume r.place [] (map (at_most (pos 0) zeroTerm) (startScope r).lengths) in
+    let a = assume r.place [] (map (at_most (pos 0) zero_term) (start_scope r).lengths) in
     numbered-append k (limit (leb (length r.params) 16) _) _ (numbered-limit k (leb (length r.params) 16) _)
-    (numbered-append k a.notes _ (numbered-assume k r.place [] (map (at_most (pos 0) zeroTerm) (startScope r).lengths)) (numbered-assumeAll k (λ c. c.place) (start_names r) zeroTerm a.facts r.needs))
+    (numbered-append k a.notes _ (numbered-assume k r.place [] (map (at_most (pos 0) zero_term) (start_scope r).lengths)) (numbered-assume_all k (λ c. c.place) (start_names r) zero_term a.facts r.needs))
 
-pub rules-numbered : (R : List Rule) (k : ℕ) (rs : List Rule) → (m : ℕ) × Numbered k (walkRules R k rs).notes m
-unfolding walkRules
+pub rules-numbered : (R : List Rule) (k : ℕ) (rs : List Rule) → (m : ℕ) × Numbered k (walk_rules R k rs).notes m
+unfolding walk_rules
 rules-numbered R k [] = (k, numbered-nil k)
 rules-numbered R k (r ∷ rs) =
-    let g = walkBody R k r in
-    let o = walk-ok R _ (startScope r) (startStand r k) r.body (start-scope r) (start-firm r) in
+    let g = walk_body R k r in
+    let o = walk-ok R _ (start_scope r) (start_stand r k) r.body (start-scope r) (start-firm r) in
     let rest = rules-numbered R g.stand.count rs in
-    (rest.0, numbered-append g.stand.count ((startKnown r).notes ++ g.notes) _ (numbered-append k (startKnown r).notes g.notes (start-numbered k r) o.numbered) rest.1)
+    (rest.0, numbered-append g.stand.count ((start_known r).notes ++ g.notes) _ (numbered-append k (start_known r).notes g.notes (start-numbered k r) o.numbered) rest.1)

@@ -12,7 +12,7 @@ use Rattle.language.specs.declared.term.Term.{Term}
 use Rattle.language.specs.declared.sign.Operator.{Operator}
 use Rattle.language.specs.declared.sign.Operator.TheVariants.{Sum, Difference, Product}
 use Rattle.language.specs.Vocabulary.{reckoned}
-use Rattle.language.specs.Terms.{coefOf, each, constant, quantity, plus, minus, scaled, worth, termAt, fitsTerm, isConstant, limited, worked}
+use Rattle.language.specs.Terms.{coef_of, each, constant, quantity, plus, minus, scaled, worth, term_at, fits_term, is_constant, limited, worked}
 
 pub each_at : (f : ℕ → ℤ) (j : ℕ) → j < 16 → get_or (each f) j (pos 0) ≡ f j
 unfolding each
@@ -63,14 +63,14 @@ worth-quantity q n h =
 pub worth-plus : (q : Assignment) (t u : Term) → worth q (plus t u) ≡ worth q t +ℤ worth q u
 unfolding worth plus
 worth-plus q t u =
-    let e = each-sum q (λ j. coefOf t j +ℤ coefOf u j) ∙ at_sum q (coefOf t) (coefOf u) 16 in
+    let e = each-sum q (λ j. coef_of t j +ℤ coef_of u j) ∙ at_sum q (coef_of t) (coef_of u) 16 in
     omega (arith, ints)
 
 pub worth-minus : (q : Assignment) (t u : Term) → worth q (minus t u) ≡ worth q t -ℤ worth q u
 unfolding worth minus
 worth-minus q t u =
-    let e = each-sum q (λ j. coefOf t j -ℤ coefOf u j) ∙ at_sum q (coefOf t) (λ j. neg_ℤ (coefOf u j)) 16 in
-    let d = at-neg q (coefOf u) 16 in
+    let e = each-sum q (λ j. coef_of t j -ℤ coef_of u j) ∙ at_sum q (coef_of t) (λ j. neg_ℤ (coef_of u j)) 16 in
+    let d = at-neg q (coef_of u) 16 in
     omega (arith, ints)
 
 at_scaled : (q : Assignment) (k : ℤ) (a : ℕ → ℤ) (n : ℕ) → sum_to (λ j. (k *ℤ a j) *ℤ q j) n ≡ k *ℤ sum_to (λ j. a j *ℤ q j) n
@@ -82,24 +82,24 @@ at_scaled q k a (suc n) =
 pub worth-scaled : (q : Assignment) (k : ℤ) (t : Term) → worth q (scaled k t) ≡ k *ℤ worth q t
 unfolding worth scaled
 worth-scaled q k t =
-    ap (λ (x : ℤ). k *ℤ t.constant +ℤ x) (each-sum q (λ j. k *ℤ coefOf t j) ∙ at_scaled q k (coefOf t) 16)
-    ∙ sym (mul-sum k t.constant (sum_to (λ j. coefOf t j *ℤ q j) 16))
+    ap (λ (x : ℤ). k *ℤ t.constant +ℤ x) (each-sum q (λ j. k *ℤ coef_of t j) ∙ at_scaled q k (coef_of t) 16)
+    ∙ sym (mul-sum k t.constant (sum_to (λ j. coef_of t j *ℤ q j) 16))
 
-pub worth-fixed : (q : Assignment) (t : Term) → isConstant t ≡ true → worth q t ≡ t.constant
+pub worth-fixed : (q : Assignment) (t : Term) → is_constant t ≡ true → worth q t ≡ t.constant
 unfolding worth
 worth-fixed q t h =
-    let e = at-zeros q (coefOf t) 16 h in
+    let e = at-zeros q (coef_of t) 16 h in
     omega (arith, ints)
 
 -- a term that is worked out is worth what its parts give
 pub limited-is : (t v : Term) → limited t ≡ Some v → t ≡ v
-limited-is t v = go (fitsTerm t)
+limited-is t v = go (fits_term t)
   where
     go : (b : Bool) → cond b (Some t) None ≡ Some v → t ≡ v
     go true e = cc
     go false e = cc
 
-product-worth : (q : Assignment) (t u v : Term) (b c : Bool) → isConstant t ≡ b → isConstant u ≡ c
+product-worth : (q : Assignment) (t u v : Term) (b c : Bool) → is_constant t ≡ b → is_constant u ≡ c
     → cond b (limited (scaled t.constant u)) (cond c (limited (scaled u.constant t)) None) ≡ Some v → worth q v ≡ worth q t *ℤ worth q u
 product-worth q t u v true c h k e =
     ap (worth q) (sym (limited-is _ v e)) ∙ worth-scaled q t.constant u ∙ ap (λ (x : ℤ). x *ℤ worth q u) (sym (worth-fixed q t h))
@@ -111,7 +111,7 @@ pub worked-worth : (q : Assignment) (o : Operator) (t u v : Term) → worked o t
 unfolding worked
 worked-worth q Sum t u v e = ap (worth q) (sym (limited-is _ v e)) ∙ worth-plus q t u
 worked-worth q Difference t u v e = ap (worth q) (sym (limited-is _ v e)) ∙ worth-minus q t u
-worked-worth q Product t u v e = product-worth q t u v (isConstant t) (isConstant u) refl refl e
+worked-worth q Product t u v e = product-worth q t u v (is_constant t) (is_constant u) refl refl e
 
 -- assignments that agree below n
 abbrev pub Agree : ℕ → Assignment → Assignment → Type 0
@@ -156,10 +156,10 @@ stable-worked n o t u v e h k q r a = worked-worth q o t u v e ∙ ap₂ (reckon
 
 -- terms by slot
 abbrev pub StableAll : ℕ → List Term → Type 0
-StableAll n ts = (i : ℕ) → Stable n (termAt ts i)
+StableAll n ts = (i : ℕ) → Stable n (term_at ts i)
 
 pub stables-more : (n m : ℕ) (ts : List Term) → n ≤ m → StableAll n ts → StableAll m ts
-stables-more n m ts h k i = stable-more n m (termAt ts i) h (k i)
+stables-more n m ts h k i = stable-more n m (term_at ts i) h (k i)
 
 pub stables-nil : (n : ℕ) → StableAll n []
 stables-nil n i = stable-constant n (pos 0)
@@ -179,7 +179,7 @@ worths-move n q r a [] h = refl
 worths-move n q r a (t ∷ ts) h = ap₂ ◌∷◌ (h zero q r a) (worths-move n q r a ts (λ j. h (suc j)))
 
 -- the value of a name is what its term is worth
-pub worths-at : (q : Assignment) (ts : List Term) (i : ℕ) → get_or (map (worth q) ts) i (pos 0) ≡ worth q (termAt ts i)
+pub worths-at : (q : Assignment) (ts : List Term) (i : ℕ) → get_or (map (worth q) ts) i (pos 0) ≡ worth q (term_at ts i)
 worths-at q [] i = sym (worth-constant q (pos 0))
 worths-at q (t ∷ ts) zero = refl
 worths-at q (t ∷ ts) (suc i) = worths-at q ts i

@@ -9,7 +9,7 @@ use Rattle.language.specs.declared.sign.Comparison.{Comparison}
 use Rattle.language.specs.declared.sign.Comparison.TheVariants.{Less, LessOrEqual, Equal, NotEqual}
 use Rattle.language.specs.Vocabulary.{holds}
 use Rattle.language.specs.Tree.{Atom, one, named, result, Side, Condition}
-use Rattle.language.specs.Terms.{constant, zeroTerm, plus, minus, scaled, termAt, fitsTerm}
+use Rattle.language.specs.Terms.{constant, zero_term, plus, minus, scaled, term_at, fits_term}
 
 -- A row is none where it would lie outside its limits; terms within their own limits always make one (`RowsFit`).
 
@@ -34,38 +34,38 @@ otherwise Equal t u = rows NotEqual t u
 otherwise NotEqual t u = rows Equal t u
 
 pub record RowsFit : Type 0 where
-  pub made : (c : Comparison) (t u : Term) → fitsTerm t ≡ true → fitsTerm u ≡ true → AllByRecursion (λ o. is_some o ≡ true) (rows c t u)
+  pub made : (c : Comparison) (t u : Term) → fits_term t ≡ true → fits_term u ≡ true → AllByRecursion (λ o. is_some o ≡ true) (rows c t u)
 
 -- what a side is worth, where names have these values and the result is r
-abbrev pub atomValue : List ℤ → ℤ → Atom → ℤ
-atomValue xs r one = pos 1
-atomValue xs r (named i) = slice_index_or xs i (pos 0)
-atomValue xs r result = r
+abbrev pub atom_value : List ℤ → ℤ → Atom → ℤ
+atom_value xs r one = pos 1
+atom_value xs r (named i) = slice_index_or xs i (pos 0)
+atom_value xs r result = r
 
-unfoldable pub sideValue : List ℤ → ℤ → Side → ℤ
-sideValue xs r [] = pos 0
-sideValue xs r (i ∷ is) = i.factor *ℤ atomValue xs r i.atom +ℤ sideValue xs r is
+unfoldable pub side_value : List ℤ → ℤ → Side → ℤ
+side_value xs r [] = pos 0
+side_value xs r (i ∷ is) = i.factor *ℤ atom_value xs r i.atom +ℤ side_value xs r is
 
 -- a condition, in exact arithmetic
 abbrev pub satisfied : List ℤ → ℤ → Condition → Bool
-satisfied xs r c = holds c.comparison (sideValue xs r c.left) (sideValue xs r c.right)
+satisfied xs r c = holds c.comparison (side_value xs r c.left) (side_value xs r c.right)
 
 -- the same of terms: a side taken whole, without a limit
-abbrev pub atomTerm : List Term → Term → Atom → Term
-atomTerm ts r one = constant (pos 1)
-atomTerm ts r (named i) = termAt ts i
-atomTerm ts r result = r
+abbrev pub atom_term : List Term → Term → Atom → Term
+atom_term ts r one = constant (pos 1)
+atom_term ts r (named i) = term_at ts i
+atom_term ts r result = r
 
-unfoldable pub sideTerm : List Term → Term → Side → Term
-sideTerm ts r [] = zeroTerm
-sideTerm ts r (i ∷ is) = plus (scaled i.factor (atomTerm ts r i.atom)) (sideTerm ts r is)
+unfoldable pub side_term : List Term → Term → Side → Term
+side_term ts r [] = zero_term
+side_term ts r (i ∷ is) = plus (scaled i.factor (atom_term ts r i.atom)) (side_term ts r is)
 
 -- the rows of a condition; none in their place where a side is large
-unfoldable pub conditionRows : List Term → Term → Condition → List (Option Row)
-conditionRows ts r c =
-    let t = sideTerm ts r c.left in
-    let u = sideTerm ts r c.right in
-    cond (fitsTerm t && fitsTerm u) (rows c.comparison t u) (None ∷ [])
+unfoldable pub condition_rows : List Term → Term → Condition → List (Option Row)
+condition_rows ts r c =
+    let t = side_term ts r c.left in
+    let u = side_term ts r c.right in
+    cond (fits_term t && fits_term u) (rows c.comparison t u) (None ∷ [])
 
-abbrev pub conditionsRows : List Term → Term → List Condition → List (Option Row)
-conditionsRows ts r cs = flat_map (conditionRows ts r) cs
+abbrev pub conditions_rows : List Term → Term → List Condition → List (Option Row)
+conditions_rows ts r cs = flat_map (condition_rows ts r) cs

@@ -8,7 +8,7 @@ use Rattle.language.specs.declared.owed.Duty.TheVariants.{Below, Above, Guard}
 use Rattle.language.specs.declared.refusal.Refusal.{Refusal}
 use Rattle.language.specs.declared.refusal.Refusal.TheVariants.{Range, Number, Narrow, Unproved, Closed}
 use Rattle.language.specs.Tree.{Expr, Rule}
-use Rattle.language.specs.Walking.{Obligation, walkRules, obligationsOf, firstFault}
+use Rattle.language.specs.Walking.{Obligation, walk_rules, obligations_of, first_fault}
 use Rattle.language.specs.Running.{Dropped}
 
 -- A sheet as it was taken: its range, its rules, their bodies with sites numbered, and what it owes.
@@ -28,25 +28,25 @@ pub record Book : Type 0 where
   pub marks : List Bool
 
 -- why a sheet is not taken: its range, or the first fault of the walk
-unfoldable pub refusalOf : ℤ → ℤ → List Rule → Option Refusal
-refusalOf low high rules = cond (int_le low (pos 0) && int_le (pos 0) high) (firstFault (walkRules rules 0 rules).notes) (Some Range)
+unfoldable pub refusal_of : ℤ → ℤ → List Rule → Option Refusal
+refusal_of low high rules = cond (int_le low (pos 0) && int_le (pos 0) high) (first_fault (walk_rules rules 0 rules).notes) (Some Range)
 
 -- a sheet without rules, in the range 0 to 0, stands for one that is not taken
-abbrev pub noSheet : Sheet
-noSheet = record { low = pos 0; high = pos 0; rules = []; bodies = []; obligations = [] }
+abbrev pub no_sheet : Sheet
+no_sheet = record { low = pos 0; high = pos 0; rules = []; bodies = []; obligations = [] }
 
-abbrev pub sheetIf : Option Refusal → ℤ → ℤ → List Rule → Sheet
-sheetIf (Some r) low high rules = noSheet
-sheetIf None low high rules =
-    let w = walkRules rules 0 rules in
-    record { low = low; high = high; rules = rules; bodies = w.bodies; obligations = obligationsOf w.notes }
+abbrev pub sheet_if : Option Refusal → ℤ → ℤ → List Rule → Sheet
+sheet_if (Some r) low high rules = no_sheet
+sheet_if None low high rules =
+    let w = walk_rules rules 0 rules in
+    record { low = low; high = high; rules = rules; bodies = w.bodies; obligations = obligations_of w.notes }
 
-abbrev pub sheetOf : ℤ → ℤ → List Rule → Sheet
-sheetOf low high rules = sheetIf (refusalOf low high rules) low high rules
+abbrev pub sheet_of : ℤ → ℤ → List Rule → Sheet
+sheet_of low high rules = sheet_if (refusal_of low high rules) low high rules
 
 -- a fresh draft: nothing is settled
-abbrev pub draftOf : Sheet → Draft
-draftOf sheet = record { sheet = sheet; marks = replicate (length sheet.obligations) false }
+abbrev pub draft_of : Sheet → Draft
+draft_of sheet = record { sheet = sheet; marks = replicate (length sheet.obligations) false }
 
 -- a domain, by its meaning: a range, and an outcome for each question and certificate
 pub record Domain : Type 0 where
@@ -78,32 +78,32 @@ asked sheet d p (Some o) = cond (wide sheet d) (verified d o (p.proposes o.facts
 abbrev pub settle : Draft → ℕ → Domain → Prover → Result (Unit {0}) Refusal
 settle draft n d p = asked draft.sheet d p (slice_get draft.sheet.obligations n)
 
-abbrev pub markIf : Result (Unit {0}) Refusal → ℕ → List Bool → List Bool
-markIf (Ok u) n marks = slice_set marks n true
-markIf (Err r) n marks = marks
+abbrev pub mark_if : Result (Unit {0}) Refusal → ℕ → List Bool → List Bool
+mark_if (Ok u) n marks = slice_set marks n true
+mark_if (Err r) n marks = marks
 
 abbrev pub settled : Draft → ℕ → Domain → Prover → Draft
-settled draft n d p = record { sheet = draft.sheet; marks = markIf (settle draft n d p) n draft.marks }
+settled draft n d p = record { sheet = draft.sheet; marks = mark_if (settle draft n d p) n draft.marks }
 
 -- Ready: the first guard from the number k on that is not marked
-abbrev pub isGuard : Duty → Bool
-isGuard Below = false
-isGuard Above = false
-isGuard Guard = true
+abbrev pub is_guard : Duty → Bool
+is_guard Below = false
+is_guard Above = false
+is_guard Guard = true
 
 abbrev pub marked : List Bool → Dropped
 marked marks n = slice_index_or marks n false
 
-unfoldable pub firstOpen : ℕ → List Obligation → Dropped → Option Refusal
-firstOpen k [] S = None
-firstOpen k (o ∷ os) S = cond (isGuard o.duty && not (S k)) (Some (Closed k o.place)) (firstOpen (suc k) os S)
+unfoldable pub first_open : ℕ → List Obligation → Dropped → Option Refusal
+first_open k [] S = None
+first_open k (o ∷ os) S = cond (is_guard o.duty && not (S k)) (Some (Closed k o.place)) (first_open (suc k) os S)
 
 abbrev pub answered : Option Refusal → Result (Unit {0}) Refusal
 answered None = Ok tt
 answered (Some r) = Err r
 
 abbrev pub readiness : Draft → Result (Unit {0}) Refusal
-readiness draft = answered (firstOpen 0 draft.sheet.obligations (marked draft.marks))
+readiness draft = answered (first_open 0 draft.sheet.obligations (marked draft.marks))
 
 abbrev pub clear : Draft → Book
 clear draft = record { sheet = draft.sheet; marks = draft.marks }

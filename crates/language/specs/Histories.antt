@@ -4,7 +4,7 @@ use Rattle.std.specs.List.{slice_get}
 use Rattle.rows.specs.declared.row.Row.{Row}
 use Rattle.rows.specs.Meaning.{Follows}
 use Rattle.domains.specs.Faults.{Good}
-use Rattle.language.specs.Limits.{longestProposal}
+use Rattle.language.specs.Limits.{longest_proposal}
 use Rattle.language.specs.Walking.{Obligation}
 use Rattle.language.specs.Drafts.{Sheet, Draft, Domain, Prover, wide, settled}
 
@@ -16,7 +16,7 @@ pub record Lawful (d : Domain) : Type 0 where
 -- a prover's law: no proposal is longer than the room that it is given
 abbrev pub ShortEnough : Option (List ℕ) → Type 0
 ShortEnough None = Unit {0}
-ShortEnough (Some c) = length c ≤ longestProposal
+ShortEnough (Some c) = length c ≤ longest_proposal
 
 pub record Brief (p : Prover) : Type 0 where
   pub short : (facts : List Row) (goal : Row) → ShortEnough (p.proposes facts goal)
@@ -27,27 +27,27 @@ pub data Step : Type 0 where
   ready : Step
 
 -- a draft after a history of such steps
-unfoldable pub draftAfter : Draft → List Step → Draft
-draftAfter draft [] = draft
-draftAfter draft (settling n d l p b ∷ history) = draftAfter (settled draft n d p) history
-draftAfter draft (ready ∷ history) = draftAfter draft history
+unfoldable pub draft_after : Draft → List Step → Draft
+draft_after draft [] = draft
+draft_after draft (settling n d l p b ∷ history) = draft_after (settled draft n d p) history
+draft_after draft (ready ∷ history) = draft_after draft history
 
 -- The plain list: a good settling puts its number on it, and nothing else does.
-abbrev pub goodProposal : Domain → Obligation → Option (List ℕ) → Bool
-goodProposal d o None = false
-goodProposal d o (Some c) = is_ok (d.outcome o.facts o.goal c)
+abbrev pub good_proposal : Domain → Obligation → Option (List ℕ) → Bool
+good_proposal d o None = false
+good_proposal d o (Some c) = is_ok (d.outcome o.facts o.goal c)
 
-abbrev pub goodFor : Sheet → Domain → Prover → Option Obligation → Bool
-goodFor sheet d p None = false
-goodFor sheet d p (Some o) = wide sheet d && goodProposal d o (p.proposes o.facts o.goal)
+abbrev pub good_for : Sheet → Domain → Prover → Option Obligation → Bool
+good_for sheet d p None = false
+good_for sheet d p (Some o) = wide sheet d && good_proposal d o (p.proposes o.facts o.goal)
 
 abbrev pub good : Sheet → ℕ → Domain → Prover → Bool
-good sheet n d p = goodFor sheet d p (slice_get sheet.obligations n)
+good sheet n d p = good_for sheet d p (slice_get sheet.obligations n)
 
-unfoldable pub plainAfter : Sheet → List ℕ → List Step → List ℕ
-plainAfter sheet list [] = list
-plainAfter sheet list (settling n d l p b ∷ history) = plainAfter sheet (cond (good sheet n d p) (n ∷ list) list) history
-plainAfter sheet list (ready ∷ history) = plainAfter sheet list history
+unfoldable pub plain_after : Sheet → List ℕ → List Step → List ℕ
+plain_after sheet list [] = list
+plain_after sheet list (settling n d l p b ∷ history) = plain_after sheet (cond (good sheet n d p) (n ∷ list) list) history
+plain_after sheet list (ready ∷ history) = plain_after sheet list history
 
 unfoldable pub on : List ℕ → ℕ → Bool
 on [] n = false

@@ -6,13 +6,13 @@ use Rattle.language.specs.declared.part.Part.{Part}
 use Rattle.language.specs.declared.refusal.Refusal.{Refusal}
 use Rattle.language.specs.declared.refusal.Refusal.TheVariants.{Closed}
 use Rattle.language.specs.declared.ending.End.{End}
-use Rattle.language.specs.Tree.{Rule, ruleAt}
+use Rattle.language.specs.Tree.{Rule, rule_at}
 use Rattle.language.specs.Comparing.{satisfied}
 use Rattle.language.specs.Walking.{Obligation}
-use Rattle.language.specs.Running.{Event, came, called, returned, madeIn}
-use Rattle.language.specs.Drafts.{Sheet, Draft, sheetOf, draftOf, Domain, Prover, wide, isGuard, marked, readiness, clear}
-use Rattle.language.specs.Histories.{Step, settling, ready, draftAfter, plainAfter, on}
-use Rattle.language.specs.Entering.{Answer, refused, ended, astray, bookRun, fullRun}
+use Rattle.language.specs.Running.{Event, came, called, returned, made_in}
+use Rattle.language.specs.Drafts.{Sheet, Draft, sheet_of, draft_of, Domain, Prover, wide, is_guard, marked, readiness, clear}
+use Rattle.language.specs.Histories.{Step, settling, ready, draft_after, plain_after, on}
+use Rattle.language.specs.Entering.{Answer, refused, ended, astray, book_run, full_run}
 
 -- A settling is good if the number is an obligation's, the domain's range holds the sheet's, and the prover proposes for its
 -- question a certificate whose outcome in the domain is good.
@@ -32,20 +32,20 @@ HadGood sheet n (ready ∷ history) = HadGood sheet n history
 
 -- if n is a guard's number, it is on the list
 abbrev pub GuardOn : Sheet → List ℕ → ℕ → Type 0
-GuardOn sheet list n = (o : Obligation) → slice_get sheet.obligations n ≡ Some o → T (isGuard o.duty) → T (on list n)
+GuardOn sheet list n = (o : Obligation) → slice_get sheet.obligations n ≡ Some o → T (is_guard o.duty) → T (on list n)
 
 -- Ready's answer is yes and every guard is on the list, or it names the first guard that is not.
 abbrev pub Answers : Sheet → List ℕ → Result (Unit {0}) Refusal → Type 0
 Answers sheet list (Ok u) = (n : ℕ) → GuardOn sheet list n
 Answers sheet list (Err r) =
-    (n : ℕ) × (o : Obligation) × (slice_get sheet.obligations n ≡ Some o) × T (isGuard o.duty) × T (not (on list n))
+    (n : ℕ) × (o : Obligation) × (slice_get sheet.obligations n ≡ Some o) × T (is_guard o.duty) × T (not (on list n))
     × ((m : ℕ) → m < n → GuardOn sheet list m) × (r ≡ Closed n o.place)
 
 -- in a full run: a check that is come to is made, and passes if it is on the list, a call meets its rule's needs, a returned value meets its rule's gives
 abbrev pub Sound : Sheet → List ℕ → Event → Type 0
 Sound sheet list (came n made passes) = (made ≡ true) × (T (on list n) → T passes)
-Sound sheet list (called f xs) = AllByRecursion (λ c. T (satisfied xs (pos 0) c)) (ruleAt sheet.rules f).needs
-Sound sheet list (returned f xs v) = AllByRecursion (λ c. T (satisfied xs v c)) (ruleAt sheet.rules f).gives
+Sound sheet list (called f xs) = AllByRecursion (λ c. T (satisfied xs (pos 0) c)) (rule_at sheet.rules f).needs
+Sound sheet list (returned f xs v) = AllByRecursion (λ c. T (satisfied xs v c)) (rule_at sheet.rules f).gives
 
 -- in a book's run: a check is dropped exactly when it is on the list
 abbrev pub DropsListed : List ℕ → Event → Type 0
@@ -55,15 +55,15 @@ DropsListed list (returned f xs v) = Unit {0}
 
 -- the book's run and the full run are the same refusal; or they have the same kind, value, place, steps and cells, and the
 -- checks made are the full run's without those on the list
-pub record SameEnd (list : List ℕ) (book full : End) (bookCells fullCells : List ℤ) (bookLog fullLog : List Event) : Type 0 where
+pub record SameEnd (list : List ℕ) (book full : End) (book_cells full_cells : List ℤ) (book_log full_log : List Event) : Type 0 where
   pub kind : book.kind ≡ full.kind
   pub value : book.value ≡ full.value
   pub place : book.place ≡ full.place
   pub steps : book.steps ≡ full.steps
-  pub bookChecks : book.checks ≡ length (madeIn bookLog)
-  pub fullChecks : full.checks ≡ length (madeIn fullLog)
-  pub cells : bookCells ≡ fullCells
-  pub made : madeIn bookLog ≡ filter (λ n. not (on list n)) (madeIn fullLog)
+  pub book_checks : book.checks ≡ length (made_in book_log)
+  pub full_checks : full.checks ≡ length (made_in full_log)
+  pub cells : book_cells ≡ full_cells
+  pub made : made_in book_log ≡ filter (λ n. not (on list n)) (made_in full_log)
 
 abbrev pub Agrees : Sheet → List ℕ → Answer → Answer → Type 0
 Agrees sheet list (refused r) (refused q) = r ≡ q
@@ -82,8 +82,8 @@ pub record Kept (sheet : Sheet) (history : List Step) (list : List ℕ) (draft :
   pub marks : (n : ℕ) → marked draft.marks n ≡ on list n
   pub answer : Answers sheet list (readiness draft)
   pub runs : readiness draft ≡ Ok tt → (rule fuel : ℕ) (numbers : List ℤ) (parts : List Part) (cells : List ℤ)
-      → Agrees sheet list (bookRun (clear draft) rule fuel numbers parts cells) (fullRun (clear draft) rule fuel numbers parts cells)
+      → Agrees sheet list (book_run (clear draft) rule fuel numbers parts cells) (full_run (clear draft) rule fuel numbers parts cells)
 
 abbrev pub Promise : Type 0
 Promise = (low high : ℤ) (rules : List Rule) (history : List Step)
-    → Kept (sheetOf low high rules) history (plainAfter (sheetOf low high rules) [] history) (draftAfter (draftOf (sheetOf low high rules)) history)
+    → Kept (sheet_of low high rules) history (plain_after (sheet_of low high rules) [] history) (draft_after (draft_of (sheet_of low high rules)) history)

@@ -5,8 +5,8 @@ use Rattle.language.specs.declared.ending.Ending.{Ending}
 use Rattle.language.specs.declared.ending.Ending.TheVariants.{Spent, Deep, Range}
 use Rattle.language.specs.declared.owed.Check.{Check}
 use Rattle.language.specs.declared.owed.Check.TheVariants.{Below, Above}
-use Rattle.language.specs.Vocabulary.{checkEnding, reckoned, holds}
-use Rattle.language.specs.Tree.{Site, Expr, num, name, calc, read, call, bind, test, put, claim, Args, end, value, lent, place_of, noExpr, lent_of}
+use Rattle.language.specs.Vocabulary.{check_ending, reckoned, holds}
+use Rattle.language.specs.Tree.{Site, Expr, num, name, calc, read, call, bind, test, put, claim, Args, end, value, lent, place_of, no_expr, lent_of}
 
 -- a check that was come to, with its number, whether it was made, and whether it passes;
 -- a call of a rule with the values of its names; its return with a value
@@ -72,7 +72,7 @@ Dropped = ℕ → Bool
 -- a check that is come to: dropped, or made, and then it may fail
 unfoldable pub check : Dropped → Check → ℕ → ℕ → Bool → Run (Unit {0})
 check S kind place number passes =
-    emit (came number (not (S number)) passes) >> cond (S number || passes) (give tt) (halt (checkEnding kind) place)
+    emit (came number (not (S number)) passes) >> cond (S number || passes) (give tt) (halt (check_ending kind) place)
 
 -- the cell of an element of a part
 abbrev pub cell_of : Part → ℤ → Option ℕ
@@ -132,7 +132,7 @@ Eval = Frame → Expr → Run ℤ
 abbrev pub enter : Program → Eval → ℕ → List ℤ → List Part → Run ℤ
 enter P ev f xs ps = do
   emit (called f xs)
-  v ← ev (record { values = xs; parts = ps }) (slice_index_or P.bodies f noExpr)
+  v ← ev (record { values = xs; parts = ps }) (slice_index_or P.bodies f no_expr)
   emit (returned f xs v)
   give v
 
@@ -188,9 +188,9 @@ run P S (suc d) E e = do
   node P S (run P S d) E e
 
 -- the numbers of the checks made, in their order
-unfoldable pub madeIn : List Event → List ℕ
-madeIn [] = []
-madeIn (came n true passes ∷ es) = n ∷ madeIn es
-madeIn (came n false passes ∷ es) = madeIn es
-madeIn (called f xs ∷ es) = madeIn es
-madeIn (returned f xs v ∷ es) = madeIn es
+unfoldable pub made_in : List Event → List ℕ
+made_in [] = []
+made_in (came n true passes ∷ es) = n ∷ made_in es
+made_in (came n false passes ∷ es) = made_in es
+made_in (called f xs ∷ es) = made_in es
+made_in (returned f xs v ∷ es) = made_in es

@@ -7,10 +7,10 @@ use Rattle.rows.specs.Meaning.{Assignment}
 use Rattle.language.specs.declared.term.Term.{Term}
 use Rattle.language.specs.declared.sign.Operator.{Operator}
 use Rattle.language.specs.declared.sign.Operator.TheVariants.{Sum, Difference, Product}
-use Rattle.language.specs.Limits.{quantities, termLimit}
+use Rattle.language.specs.Limits.{quantities, term_limit}
 
-abbrev pub coefOf : Term → ℕ → ℤ
-coefOf t j = slice_index_or t.coefs j (pos 0)
+abbrev pub coef_of : Term → ℕ → ℤ
+coef_of t j = slice_index_or t.coefs j (pos 0)
 
 -- a list of a number for each quantity
 unfoldable pub each : (ℕ → ℤ) → List ℤ
@@ -19,48 +19,48 @@ each f = map f (range_with_len 0 quantities)
 unfoldable pub constant : ℤ → Term
 constant z = record { constant = z; coefs = each (λ j. pos 0) }
 
-abbrev pub zeroTerm : Term
-zeroTerm = constant (pos 0)
+abbrev pub zero_term : Term
+zero_term = constant (pos 0)
 
 unfoldable pub quantity : ℕ → Term
 quantity n = record { constant = pos 0; coefs = each (λ j. cond (j == n) (pos 1) (pos 0)) }
 
 unfoldable pub plus : Term → Term → Term
-plus t u = record { constant = t.constant +ℤ u.constant; coefs = each (λ j. coefOf t j +ℤ coefOf u j) }
+plus t u = record { constant = t.constant +ℤ u.constant; coefs = each (λ j. coef_of t j +ℤ coef_of u j) }
 
 unfoldable pub minus : Term → Term → Term
-minus t u = record { constant = t.constant -ℤ u.constant; coefs = each (λ j. coefOf t j -ℤ coefOf u j) }
+minus t u = record { constant = t.constant -ℤ u.constant; coefs = each (λ j. coef_of t j -ℤ coef_of u j) }
 
 unfoldable pub scaled : ℤ → Term → Term
-scaled k t = record { constant = k *ℤ t.constant; coefs = each (λ j. k *ℤ coefOf t j) }
+scaled k t = record { constant = k *ℤ t.constant; coefs = each (λ j. k *ℤ coef_of t j) }
 
 -- what a term is worth at an assignment
 unfoldable pub worth : Assignment → Term → ℤ
-worth q t = t.constant +ℤ sum_to (λ j. coefOf t j *ℤ q j) quantities
+worth q t = t.constant +ℤ sum_to (λ j. coef_of t j *ℤ q j) quantities
 
-abbrev pub termAt : List Term → ℕ → Term
-termAt ts i = slice_index_or ts i zeroTerm
+abbrev pub term_at : List Term → ℕ → Term
+term_at ts i = slice_index_or ts i zero_term
 
 abbrev pub near : ℤ → Bool
-near z = int_le (neg_ℤ (pos termLimit)) z && int_le z (pos termLimit)
+near z = int_le (neg_ℤ (pos term_limit)) z && int_le z (pos term_limit)
 
-unfoldable pub allNear : List ℤ → Bool
-allNear [] = true
-allNear (z ∷ zs) = near z && allNear zs
+unfoldable pub all_near : List ℤ → Bool
+all_near [] = true
+all_near (z ∷ zs) = near z && all_near zs
 
 -- the constant and each coefficient lie within ±1,000,000
-abbrev pub fitsTerm : Term → Bool
-fitsTerm t = near t.constant && allNear t.coefs
+abbrev pub fits_term : Term → Bool
+fits_term t = near t.constant && all_near t.coefs
 
 -- every coefficient is 0
-abbrev pub isConstant : Term → Bool
-isConstant t = all_below quantities (λ j. is_zero (coefOf t j))
+abbrev pub is_constant : Term → Bool
+is_constant t = all_below quantities (λ j. is_zero (coef_of t j))
 
 abbrev pub limited : Term → Option Term
-limited t = cond (fitsTerm t) (Some t) None
+limited t = cond (fits_term t) (Some t) None
 
 -- a sum, difference or product as a term: none outside the limits, or with no constant side
 unfoldable pub worked : Operator → Term → Term → Option Term
 worked Sum t u = limited (plus t u)
 worked Difference t u = limited (minus t u)
-worked Product t u = cond (isConstant t) (limited (scaled t.constant u)) (cond (isConstant u) (limited (scaled u.constant t)) None)
+worked Product t u = cond (is_constant t) (limited (scaled t.constant u)) (cond (is_constant u) (limited (scaled u.constant t)) None)

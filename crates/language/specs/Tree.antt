@@ -72,7 +72,7 @@ place_of (claim p e cs) = p
 -- a parameter is a number, or a list, which brings its length's name
 pub data Param : Type 0 where
   a_number : Param
-  aList : Param
+  a_list : Param
 
 pub record Rule : Type 0 where
   pub place : ℕ
@@ -81,28 +81,28 @@ pub record Rule : Type 0 where
   pub gives : List Condition
   pub body : Expr
 
-abbrev pub noExpr : Expr
-noExpr = num 0 0
+abbrev pub no_expr : Expr
+no_expr = num 0 0
 
 -- past the last rule: it has nothing and gives 0
-abbrev pub noRule : Rule
-noRule = record { place = 0; params = []; needs = []; gives = []; body = noExpr }
+abbrev pub no_rule : Rule
+no_rule = record { place = 0; params = []; needs = []; gives = []; body = no_expr }
 
-abbrev pub ruleAt : List Rule → ℕ → Rule
-ruleAt rules f = slice_index_or rules f noRule
+abbrev pub rule_at : List Rule → ℕ → Rule
+rule_at rules f = slice_index_or rules f no_rule
 
 -- of a list with an entry for each parameter, those of the lists
-unfoldable pub atLists : {A : Type 0} → List Param → List A → List A
-atLists [] xs = []
-atLists (p ∷ ps) [] = []
-atLists (a_number ∷ ps) (x ∷ xs) = atLists ps xs
-atLists (aList ∷ ps) (x ∷ xs) = x ∷ atLists ps xs
+unfoldable pub at_lists : {A : Type 0} → List Param → List A → List A
+at_lists [] xs = []
+at_lists (p ∷ ps) [] = []
+at_lists (a_number ∷ ps) (x ∷ xs) = at_lists ps xs
+at_lists (a_list ∷ ps) (x ∷ xs) = x ∷ at_lists ps xs
 
 -- what the arguments are, as parameters
 unfoldable pub shape : Args → List Param
 shape end = []
 shape (value e es) = a_number ∷ shape es
-shape (lent l es) = aList ∷ shape es
+shape (lent l es) = a_list ∷ shape es
 
 -- the slots of the lists that are lent
 unfoldable pub lent_of : Args → List ℕ

@@ -8,10 +8,10 @@ use Rattle.language.specs.declared.owed.Duty.{Duty}
 use Rattle.language.specs.declared.owed.Duty.TheVariants.{Below, Above, Guard}
 use Rattle.language.specs.declared.refusal.Refusal.{Refusal}
 use Rattle.language.specs.declared.refusal.Refusal.TheVariants.{Name, Full, Large}
-use Rattle.language.specs.Limits.{quantities, mostFacts, mostObligations}
-use Rattle.language.specs.Tree.{Condition, Site, Expr, num, name, calc, read, call, bind, test, put, claim, Args, end, value, lent, Param, a_number, aList, Rule, ruleAt, atLists, shape}
-use Rattle.language.specs.Terms.{constant, zeroTerm, quantity, termAt, fitsTerm, limited, worked}
-use Rattle.language.specs.Comparing.{at_most, rows, otherwise, conditionRows, conditionsRows}
+use Rattle.language.specs.Limits.{quantities, most_facts, most_obligations}
+use Rattle.language.specs.Tree.{Condition, Site, Expr, num, name, calc, read, call, bind, test, put, claim, Args, end, value, lent, Param, a_number, a_list, Rule, rule_at, at_lists, shape}
+use Rattle.language.specs.Terms.{constant, zero_term, quantity, term_at, fits_term, limited, worked}
+use Rattle.language.specs.Comparing.{at_most, rows, otherwise, condition_rows, conditions_rows}
 
 -- an obligation's question is whether its goal follows from the facts in force when it was owed
 pub record Obligation : Type 0 where
@@ -74,11 +74,11 @@ owe duty place work facts count None = record { count = count; notes = fault (La
 owe duty place work facts count (Some row) =
     record { count = suc count; notes = owes (record { number = count; duty = duty; place = place; facts = facts; goal = row }) work ∷ [] }
 
-unfoldable pub oweAll : ℕ → List Row → ℕ → List (Option Row) → Owing
-oweAll place facts count [] = record { count = count; notes = [] }
-oweAll place facts count (r ∷ rs) =
+unfoldable pub owe_all : ℕ → List Row → ℕ → List (Option Row) → Owing
+owe_all place facts count [] = record { count = count; notes = [] }
+owe_all place facts count (r ∷ rs) =
     let o = owe Guard place place facts count r in
-    let os = oweAll place facts o.count rs in
+    let os = owe_all place facts o.count rs in
     record { count = os.count; notes = o.notes ++ os.notes }
 
 -- taking rows as facts; the place is that of a limit that is met
@@ -93,20 +93,20 @@ assume place facts (None ∷ rs) =
     record { facts = k.facts; notes = fault (Large place) ∷ k.notes }
 assume place facts (Some row ∷ rs) =
     let k = assume place (facts ++ row ∷ []) rs in
-    record { facts = k.facts; notes = limit (nat_lt (length facts) mostFacts) (Full place) ++ k.notes }
+    record { facts = k.facts; notes = limit (nat_lt (length facts) most_facts) (Full place) ++ k.notes }
 
 -- taking conditions as facts, each at its place
-unfoldable pub assumeAll : (Condition → ℕ) → List Term → Term → List Row → List Condition → Known
-assumeAll at ts r facts [] = record { facts = facts; notes = [] }
-assumeAll at ts r facts (c ∷ cs) =
-    let k = assume (at c) facts (conditionRows ts r c) in
-    let l = assumeAll at ts r k.facts cs in
+unfoldable pub assume_all : (Condition → ℕ) → List Term → Term → List Row → List Condition → Known
+assume_all at ts r facts [] = record { facts = facts; notes = [] }
+assume_all at ts r facts (c ∷ cs) =
+    let k = assume (at c) facts (condition_rows ts r c) in
+    let l = assume_all at ts r k.facts cs in
     record { facts = l.facts; notes = k.notes ++ l.notes }
 
 -- the two checks of an index
-unfoldable pub oweChecks : Site → ℕ → Stand → Term → Term → Owing
-oweChecks site work s index length =
-    let b = owe Below site.place work s.facts s.count (at_most (pos 0) zeroTerm index) in
+unfoldable pub owe_checks : Site → ℕ → Stand → Term → Term → Owing
+owe_checks site work s index length =
+    let b = owe Below site.place work s.facts s.count (at_most (pos 0) zero_term index) in
     let a = owe Above site.place work s.facts b.count (at_most (pos 1) index length) in
     record { count = a.count; notes = b.notes ++ a.notes }
 
@@ -131,16 +131,16 @@ fresh place s notes = record {
 }
 
 -- the next quantity, of which conditions are facts
-unfoldable pub freshWith : ℕ → List Term → List Condition → Stand → List Note → Found
-freshWith place ts cs s notes =
+unfoldable pub fresh_with : ℕ → List Term → List Condition → Stand → List Note → Found
+fresh_with place ts cs s notes =
     let f = fresh place s notes in
-    let k = assumeAll (λ c. place) ts f.term s.facts cs in
+    let k = assume_all (λ c. place) ts f.term s.facts cs in
     record { term = f.term; stand = knowing f.stand k.facts; notes = f.notes ++ k.notes }
 
 -- a term that was worked out, or else the next quantity
-unfoldable pub orFresh : ℕ → Option Term → Stand → List Note → Found
-orFresh place (Some t) s notes = record { term = t; stand = s; notes = notes }
-orFresh place None s notes = fresh place s notes
+unfoldable pub or_fresh : ℕ → Option Term → Stand → List Note → Found
+or_fresh place (Some t) s notes = record { term = t; stand = s; notes = notes }
+or_fresh place None s notes = fresh place s notes
 
 -- an expression is inferred, or checked against conditions, whose names stand for these terms
 pub data Mode : Type 0 where
@@ -151,43 +151,43 @@ pub data Mode : Type 0 where
 unfoldable pub finish : Mode → ℕ → Found → Found
 finish infer place f = f
 finish (check ts cs) place f =
-    let o = oweAll place f.stand.facts f.stand.count (conditionsRows ts f.term cs) in
+    let o = owe_all place f.stand.facts f.stand.count (conditions_rows ts f.term cs) in
     record { term = f.term; stand = counted f.stand o.count; notes = f.notes ++ o.notes }
 
 -- after an if: back to after the sides; where it is inferred its term is fresh
 unfoldable pub join : Mode → ℕ → Stand → List Note → Found
 join infer place s notes = fresh place s notes
-join (check ts cs) place s notes = record { term = zeroTerm; stand = s; notes = notes }
+join (check ts cs) place s notes = record { term = zero_term; stand = s; notes = notes }
 
-unfoldable pub sameParams : List Param → List Param → Bool
-sameParams [] [] = true
-sameParams [] (q ∷ qs) = false
-sameParams (p ∷ ps) [] = false
-sameParams (a_number ∷ ps) (a_number ∷ qs) = sameParams ps qs
-sameParams (a_number ∷ ps) (aList ∷ qs) = false
-sameParams (aList ∷ ps) (a_number ∷ qs) = false
-sameParams (aList ∷ ps) (aList ∷ qs) = sameParams ps qs
+unfoldable pub same_params : List Param → List Param → Bool
+same_params [] [] = true
+same_params [] (q ∷ qs) = false
+same_params (p ∷ ps) [] = false
+same_params (a_number ∷ ps) (a_number ∷ qs) = same_params ps qs
+same_params (a_number ∷ ps) (a_list ∷ qs) = false
+same_params (a_list ∷ ps) (a_number ∷ qs) = false
+same_params (a_list ∷ ps) (a_list ∷ qs) = same_params ps qs
 
 -- a call of a rule that there is, with what it takes
 abbrev pub callable : List Rule → ℕ → Args → Bool
-callable rules f es = nat_lt f (length rules) && sameParams (shape es) (ruleAt rules f).params
+callable rules f es = nat_lt f (length rules) && same_params (shape es) (rule_at rules f).params
 
 unfoldable mutual
   pub walk : List Rule → Mode → Scope → Stand → Expr → Got
-  walk R m Γ s (num p n) = got (num p n) (finish m p (orFresh p (limited (constant (pos n))) s []))
-  walk R m Γ s (name p i) = got (name p i) (finish m p (record { term = termAt Γ.names i; stand = s; notes = [] }))
+  walk R m Γ s (num p n) = got (num p n) (finish m p (or_fresh p (limited (constant (pos n))) s []))
+  walk R m Γ s (name p i) = got (name p i) (finish m p (record { term = term_at Γ.names i; stand = s; notes = [] }))
   walk R m Γ s (calc p o a b) =
       let g = walk R infer Γ s a in
       let h = walk R infer Γ g.stand b in
-      got (calc p o g.tree h.tree) (finish m p (orFresh p (worked o g.term h.term) h.stand (g.notes ++ h.notes)))
+      got (calc p o g.tree h.tree) (finish m p (or_fresh p (worked o g.term h.term) h.stand (g.notes ++ h.notes)))
   walk R m Γ s (read site e) =
       let g = walk R infer Γ s e in
-      let o = oweChecks site site.place g.stand g.term (termAt Γ.lengths site.list) in
+      let o = owe_checks site site.place g.stand g.term (term_at Γ.lengths site.list) in
       got (read (numbered site g.stand.count) g.tree) (finish m site.place (fresh site.place (counted g.stand o.count) (g.notes ++ o.notes)))
   walk R m Γ s (call p f es) =
       let g = walks R Γ s es in
-      let o = oweAll p g.stand.facts g.stand.count (conditionsRows g.terms zeroTerm (ruleAt R f).needs) in
-      got (call p f g.tree) (finish m p (freshWith p g.terms (ruleAt R f).gives (counted g.stand o.count) ((limit (callable R f es) (Name p) ++ g.notes) ++ o.notes)))
+      let o = owe_all p g.stand.facts g.stand.count (conditions_rows g.terms zero_term (rule_at R f).needs) in
+      got (call p f g.tree) (finish m p (fresh_with p g.terms (rule_at R f).gives (counted g.stand o.count) ((limit (callable R f es) (Name p) ++ g.notes) ++ o.notes)))
   walk R m Γ s (bind p a b) =
       let g = walk R infer Γ s a in
       let h = walk R m (binding Γ g.term) g.stand b in
@@ -204,12 +204,12 @@ unfoldable mutual
   walk R m Γ s (put p site a b e) =
       let g = walk R infer Γ s a in
       let h = walk R infer Γ g.stand b in
-      let o = oweChecks site p h.stand g.term (termAt Γ.lengths site.list) in
+      let o = owe_checks site p h.stand g.term (term_at Γ.lengths site.list) in
       let x = walk R m Γ (counted h.stand o.count) e in
       record { term = x.term; stand = x.stand; notes = (g.notes ++ h.notes) ++ (o.notes ++ x.notes); tree = put p (numbered site h.stand.count) g.tree h.tree x.tree }
   walk R m Γ s (claim p e cs) =
       let g = walk R (check Γ.names cs) Γ s e in
-      got (claim p g.tree cs) (finish m p (freshWith p Γ.names cs (counted s g.stand.count) g.notes))
+      got (claim p g.tree cs) (finish m p (fresh_with p Γ.names cs (counted s g.stand.count) g.notes))
 
   -- arguments, from the left; a list that is lent stands for its length
   pub walks : List Rule → Scope → Stand → Args → Gots
@@ -220,53 +220,53 @@ unfoldable mutual
       record { terms = g.term ∷ h.terms; stand = h.stand; notes = g.notes ++ h.notes; tree = value g.tree h.tree }
   walks R Γ s (lent l es) =
       let h = walks R Γ s es in
-      record { terms = termAt Γ.lengths l ∷ h.terms; stand = h.stand; notes = h.notes; tree = lent l h.tree }
+      record { terms = term_at Γ.lengths l ∷ h.terms; stand = h.stand; notes = h.notes; tree = lent l h.tree }
 
 -- every term that the walk has lies within its limits
 pub record TermsFit : Type 0 where
   pub kept : (R : List Rule) (m : Mode) (Γ : Scope) (s : Stand) (e : Expr)
-      → AllByRecursion (λ t. fitsTerm t ≡ true) Γ.names → AllByRecursion (λ t. fitsTerm t ≡ true) Γ.lengths → fitsTerm (walk R m Γ s e).term ≡ true
+      → AllByRecursion (λ t. fits_term t ≡ true) Γ.names → AllByRecursion (λ t. fits_term t ≡ true) Γ.lengths → fits_term (walk R m Γ s e).term ≡ true
 
 -- where a rule's body begins: numbers and lengths are the first quantities, each length is at least 0, and the needs hold
 abbrev pub start_names : Rule → List Term
 start_names r = map quantity (range_with_len 0 (length r.params))
 
-abbrev pub startScope : Rule → Scope
-startScope r = record { names = start_names r; lengths = atLists r.params (start_names r) }
+abbrev pub start_scope : Rule → Scope
+start_scope r = record { names = start_names r; lengths = at_lists r.params (start_names r) }
 
-unfoldable pub startKnown : Rule → Known
-startKnown r =
-    let k = assume r.place [] (map (at_most (pos 0) zeroTerm) (startScope r).lengths) in
-    let l = assumeAll (λ c. c.place) (start_names r) zeroTerm k.facts r.needs in
+unfoldable pub start_known : Rule → Known
+start_known r =
+    let k = assume r.place [] (map (at_most (pos 0) zero_term) (start_scope r).lengths) in
+    let l = assume_all (λ c. c.place) (start_names r) zero_term k.facts r.needs in
     record { facts = l.facts; notes = limit (nat_le (length r.params) quantities) (Full r.place) ++ (k.notes ++ l.notes) }
 
-abbrev pub startStand : Rule → ℕ → Stand
-startStand r count = record { next = length r.params; facts = (startKnown r).facts; count = count }
+abbrev pub start_stand : Rule → ℕ → Stand
+start_stand r count = record { next = length r.params; facts = (start_known r).facts; count = count }
 
 -- a body is checked against its gives
-abbrev pub walkBody : List Rule → ℕ → Rule → Got
-walkBody R count r = walk R (check (start_names r) r.gives) (startScope r) (startStand r count) r.body
+abbrev pub walk_body : List Rule → ℕ → Rule → Got
+walk_body R count r = walk R (check (start_names r) r.gives) (start_scope r) (start_stand r count) r.body
 
 -- rule after rule
 pub record Walked : Type 0 where
   pub notes : List Note
   pub bodies : List Expr
 
-unfoldable pub walkRules : List Rule → ℕ → List Rule → Walked
-walkRules R count [] = record { notes = []; bodies = [] }
-walkRules R count (r ∷ rs) =
-    let g = walkBody R count r in
-    let w = walkRules R g.stand.count rs in
-    record { notes = ((startKnown r).notes ++ g.notes) ++ w.notes; bodies = g.tree ∷ w.bodies }
+unfoldable pub walk_rules : List Rule → ℕ → List Rule → Walked
+walk_rules R count [] = record { notes = []; bodies = [] }
+walk_rules R count (r ∷ rs) =
+    let g = walk_body R count r in
+    let w = walk_rules R g.stand.count rs in
+    record { notes = ((start_known r).notes ++ g.notes) ++ w.notes; bodies = g.tree ∷ w.bodies }
 
 -- the obligations, in their order
-unfoldable pub obligationsOf : List Note → List Obligation
-obligationsOf [] = []
-obligationsOf (owes o work ∷ ns) = o ∷ obligationsOf ns
-obligationsOf (fault r ∷ ns) = obligationsOf ns
+unfoldable pub obligations_of : List Note → List Obligation
+obligations_of [] = []
+obligations_of (owes o work ∷ ns) = o ∷ obligations_of ns
+obligations_of (fault r ∷ ns) = obligations_of ns
 
 -- the first fault: one that was noted, or the obligation past the last that there is room for
-unfoldable pub firstFault : List Note → Option Refusal
-firstFault [] = None
-firstFault (owes o work ∷ ns) = cond (nat_lt o.number mostObligations) (firstFault ns) (Some (Full work))
-firstFault (fault r ∷ ns) = Some r
+unfoldable pub first_fault : List Note → Option Refusal
+first_fault [] = None
+first_fault (owes o work ∷ ns) = cond (nat_lt o.number most_obligations) (first_fault ns) (Some (Full work))
+first_fault (fault r ∷ ns) = Some r

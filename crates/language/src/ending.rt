@@ -1,5 +1,5 @@
 ghost use Rattle.std.specs.Prelude.{◌≡◌};
-ghost use Rattle.language.specs.Vocabulary.{endingNumber, endingWord};
+ghost use Rattle.language.specs.Vocabulary.{ending_number, ending_word};
 
 // How a run ends: with a value, or with a stop.
 #[derive(Clone, Copy)]
@@ -14,13 +14,13 @@ pub enum Ending {
 
 impl Ending {
     pub fn number(self) -> u8
-        ensures { result ≡ endingNumber self }
+        ensures { result ≡ ending_number self }
     {
         self as u8
     }
 
     pub fn word(self) -> &'static str
-        ensures { result.now ≡ endingWord self }
+        ensures { result.now ≡ ending_word self }
     {
         match self {
             Ending::Value => "value",

@@ -1,6 +1,6 @@
 ghost use Rattle.std.specs.Prelude.{◌≡◌, pos};
 ghost use Rattle.language.specs.Comparing.{RowsFit};
-ghost use Rattle.language.specs.Limits.{mostDepth, termLimit};
+ghost use Rattle.language.specs.Limits.{most_depth, term_limit};
 ghost use Rattle.language.specs.Walking.{TermsFit};
 ghost use Rattle.language.specs.Examples.{Worked};
 
@@ -19,7 +19,7 @@ pub const LONGEST_PART: u32 = 4_096;
 
 // The depth that a run may have. Worked sheets show it, and what sheets owe.
 pub fn most_depth() -> u32
-    ensures value { result ≡ mostDepth }
+    ensures value { result ≡ most_depth }
     ensures worked { Worked }
 {
     MOST_DEPTH
@@ -27,7 +27,7 @@ pub fn most_depth() -> u32
 
 // The limit of terms and sides. Every term of the walk keeps it, and two that keep it compare by rows that keep a row's limits.
 pub fn term_limit() -> i32
-    ensures value { result ≡ pos termLimit }
+    ensures value { result ≡ pos term_limit }
     ensures rows { RowsFit }
     ensures terms { TermsFit }
 {

@@ -1,5 +1,5 @@
 ghost use Rattle.std.specs.Prelude.{◌≡◌};
-ghost use Rattle.language.specs.Vocabulary.{checkWord, checkEnding, dutyWord};
+ghost use Rattle.language.specs.Vocabulary.{check_word, check_ending, duty_word};
 
 use crate::ending::Ending;
 
@@ -12,7 +12,7 @@ pub enum Check {
 
 impl Check {
     pub fn word(self) -> &'static str
-        ensures { result.now ≡ checkWord self }
+        ensures { result.now ≡ check_word self }
     {
         match self {
             Check::Below => "below",
@@ -22,7 +22,7 @@ impl Check {
 
     // How a run ends where this check fails.
     pub fn ending(self) -> Ending
-        ensures { result ≡ checkEnding self }
+        ensures { result ≡ check_ending self }
     {
         match self {
             Check::Below => Ending::Below,
@@ -41,7 +41,7 @@ pub enum Duty {
 
 impl Duty {
     pub fn word(self) -> &'static str
-        ensures { result.now ≡ dutyWord self }
+        ensures { result.now ≡ duty_word self }
     {
         match self {
             Duty::Below => "below",

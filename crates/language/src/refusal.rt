@@ -1,5 +1,5 @@
 ghost use Rattle.std.specs.Prelude.{◌≡◌};
-ghost use Rattle.language.specs.Vocabulary.{refusalNumber, refusalWord, refusalPlace, refusalNamed, refusalReason, refusalDepth};
+ghost use Rattle.language.specs.Vocabulary.{refusal_number, refusal_word, refusal_place, refusal_named, refusal_reason, refusal_depth};
 
 use domains::Fault;
 
@@ -36,7 +36,7 @@ pub enum Refusal {
 
 impl Refusal {
     pub fn number(self) -> u8
-        ensures { result ≡ refusalNumber self }
+        ensures { result ≡ refusal_number self }
     {
         match self {
             Refusal::Range => 1,
@@ -56,7 +56,7 @@ impl Refusal {
     }
 
     pub fn word(self) -> &'static str
-        ensures { result.now ≡ refusalWord self }
+        ensures { result.now ≡ refusal_word self }
     {
         match self {
             Refusal::Range => "range",
@@ -77,7 +77,7 @@ impl Refusal {
 
     // The place that it gives, else 0.
     pub fn place(self) -> usize
-        ensures { result ≡ refusalPlace self }
+        ensures { result ≡ refusal_place self }
     {
         match self {
             Refusal::Range => 0,
@@ -98,7 +98,7 @@ impl Refusal {
 
     // The number of the obligation or condition that it names, else 0.
     pub fn named(self) -> u32
-        ensures { result ≡ refusalNamed self }
+        ensures { result ≡ refusal_named self }
     {
         match self {
             Refusal::Closed { named, place: _ } => named,
@@ -109,7 +109,7 @@ impl Refusal {
 
     // The number of the domain's reason, else 0.
     pub fn reason(self) -> u8
-        ensures { result ≡ refusalReason self }
+        ensures { result ≡ refusal_reason self }
     {
         match self {
             Refusal::Unproved {
@@ -122,7 +122,7 @@ impl Refusal {
 
     // How far below the domain asked the fault lies, else 0.
     pub fn depth(self) -> u8
-        ensures { result ≡ refusalDepth self }
+        ensures { result ≡ refusal_depth self }
     {
         match self {
             Refusal::Unproved {

@@ -1,5 +1,5 @@
 ghost use Rattle.std.specs.Prelude.{◌≡◌};
-ghost use Rattle.language.specs.Vocabulary.{operatorWord, comparisonWord};
+ghost use Rattle.language.specs.Vocabulary.{operator_word, comparison_word};
 ghost use Rattle.language.specs.Vocabulary.{holds};
 
 #[derive(Clone, Copy)]
@@ -11,7 +11,7 @@ pub enum Operator {
 
 impl Operator {
     pub fn word(self) -> &'static str
-        ensures { result.now ≡ operatorWord self }
+        ensures { result.now ≡ operator_word self }
     {
         match self {
             Operator::Sum => "+",
@@ -31,7 +31,7 @@ pub enum Comparison {
 
 impl Comparison {
     pub fn word(self) -> &'static str
-        ensures { result.now ≡ comparisonWord self }
+        ensures { result.now ≡ comparison_word self }
     {
         match self {
             Comparison::Less => "<",

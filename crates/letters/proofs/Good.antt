@@ -12,11 +12,11 @@ use Rattle.letters.specs.declared.kind.Kind.TheVariants.{Name, Numeral}
 use Rattle.letters.specs.declared.token.Token.{Token}
 use Rattle.letters.specs.declared.cutting.Lead.TheVariants.{Gap, Word, Number, Sign}
 use Rattle.letters.specs.declared.cutting.Piece.TheVariants.{Part, Bad}
-use Rattle.letters.specs.Bytes.{isBlank, isLetter, isDigit, EachLetter, EachDigit}
-use Rattle.letters.specs.Cuts.{word_at, numeralAt, sign_of, signBy, signAt, pieceBy, piece_of}
-use Rattle.letters.specs.Kinds.{word, keywordOf, keywords, writtenSo}
+use Rattle.letters.specs.Bytes.{is_blank, is_letter, is_digit, EachLetter, EachDigit}
+use Rattle.letters.specs.Cuts.{word_at, numeral_at, sign_of, sign_by, sign_at, piece_by, piece_of}
+use Rattle.letters.specs.Kinds.{word, keyword_of, keywords, written_so}
 use Rattle.letters.specs.Spelling.{Spelt, name, numeral, fixed, Grows, by-letter, by-digit, to-sign, Longest}
-use Rattle.letters.specs.Tokens.{tokenOf}
+use Rattle.letters.specs.Tokens.{token_of}
 use Rattle.letters.proofs.Running.{run-passes, run_ends, run-some}
 use Rattle.letters.proofs.Signs.{short, long, sign-is, Longer, letters, equals, longer}
 use Rattle.letters.proofs.Signs as signs
@@ -30,7 +30,7 @@ pub record Good (i : ℕ) (bs : List ℕ) (t : Token) : Type 0 where
   pub spelt : Spelt t (take t.size bs)
   pub longest : Longest (take t.size bs) (drop t.size bs)
 
-letter-digit : (x : ℕ) → isLetter x ≡ true → isDigit x ≡ true → ⊥
+letter-digit : (x : ℕ) → is_letter x ≡ true → is_digit x ≡ true → ⊥
 letter-digit x l d = let no : ◌≡◌ {A = ℕ} 0 1 = grind (arith, nat_tests) in omega arith
 
 not-mark : (x c : ℕ) → x ≡ c → Mark c → (x ≡ 60 → ⊥) × (x ≡ 33 → ⊥) × (x ≡ 58 → ⊥) → ⊥
@@ -39,7 +39,7 @@ not-mark x c e (inr (inl h)) n = n.1 (e ∙ h)
 not-mark x c e (inr (inr h)) n = n.2 (e ∙ h)
 
 -- a byte that is no letter, digit or = makes nothing longer, and these only what they go on with
-module _ (w : List ℕ) (b : ℕ) (some : 0 < length w) (nl : EachLetter w → isLetter b ≡ true → ⊥) (nd : EachDigit w → isDigit b ≡ true → ⊥) (ns : (c : ℕ) → w ≡ c ∷ [] → Mark c → b ≡ 61 → ⊥) where
+module _ (w : List ℕ) (b : ℕ) (some : 0 < length w) (nl : EachLetter w → is_letter b ≡ true → ⊥) (nd : EachDigit w → is_digit b ≡ true → ⊥) (ns : (c : ℕ) → w ≡ c ∷ [] → Mark c → b ≡ 61 → ⊥) where
   no_sign : Longer w b → ⊥
   no_sign (letters l h) = nl l h
   no_sign (equals c e m h) = ns c e m h
@@ -58,59 +58,59 @@ module _ (i : ℕ) (bs : List ℕ) (full : 0 < length bs) where
   only_kept : (n : ℕ) → 0 < n → n ≤ length bs → (c : ℕ) → take n bs ≡ c ∷ [] → get_or bs 0 0 ≡ c
   only_kept n h l c e = first-kept n h l (λ y. y ≡ c) (subst (AllByRecursion (λ y. y ≡ c)) (sym e) (refl, tt))
 
-  word-longest : isLetter (get_or bs 0 0) ≡ true → Longest (take (prefix_len isLetter bs) bs) (drop (prefix_len isLetter bs) bs)
+  word-longest : is_letter (get_or bs 0 0) ≡ true → Longest (take (prefix_len is_letter bs) bs) (drop (prefix_len is_letter bs) bs)
   word-longest f b more e =
-      let n = prefix_len isLetter bs in
-      let some = run-some isLetter bs full f in
-      let fits = prefix_len-le-length isLetter bs in
-      let after = run_ends isLetter bs b more e in
+      let n = prefix_len is_letter bs in
+      let some = run-some is_letter bs full f in
+      let fits = prefix_len-le-length is_letter bs in
+      let after = run_ends is_letter bs b more e in
       let long = length-take-le n bs fits in
       no-growth (take n bs) b (omega arith)
-      (λ l h. both_ways (isLetter b) after h)
-      (λ d h. letter-digit (get_or bs 0 0) f (first-kept n some fits (λ y. isDigit y ≡ true) d))
+      (λ l h. both_ways (is_letter b) after h)
+      (λ d h. letter-digit (get_or bs 0 0) f (first-kept n some fits (λ y. is_digit y ≡ true) d))
       (λ c q m h. let x = only_kept n some fits c q in let no : ◌≡◌ {A = ℕ} 0 1 = grind (arith, nat_tests) in omega arith)
 
-  numeral-longest : isDigit (get_or bs 0 0) ≡ true → Longest (take (prefix_len isDigit bs) bs) (drop (prefix_len isDigit bs) bs)
+  numeral-longest : is_digit (get_or bs 0 0) ≡ true → Longest (take (prefix_len is_digit bs) bs) (drop (prefix_len is_digit bs) bs)
   numeral-longest f b more e =
-      let n = prefix_len isDigit bs in
-      let some = run-some isDigit bs full f in
-      let fits = prefix_len-le-length isDigit bs in
-      let after = run_ends isDigit bs b more e in
+      let n = prefix_len is_digit bs in
+      let some = run-some is_digit bs full f in
+      let fits = prefix_len-le-length is_digit bs in
+      let after = run_ends is_digit bs b more e in
       let long = length-take-le n bs fits in
       no-growth (take n bs) b (omega arith)
-      (λ l h. letter-digit (get_or bs 0 0) (first-kept n some fits (λ y. isLetter y ≡ true) l) f)
-      (λ d h. both_ways (isDigit b) after h)
+      (λ l h. letter-digit (get_or bs 0 0) (first-kept n some fits (λ y. is_letter y ≡ true) l) f)
+      (λ d h. both_ways (is_digit b) after h)
       (λ c q m h. let x = only_kept n some fits c q in let no : ◌≡◌ {A = ℕ} 0 1 = grind (arith, nat_tests) in omega arith)
 
-  word-spelt : (w : List ℕ) (n : ℕ) → EachLetter w → length w ≤ 16 → (writtenSo w keywords ≡ Name) ⊎ (w ≡ word (writtenSo w keywords)) → Spelt (tokenOf (keywordOf w) i n 0) w
+  word-spelt : (w : List ℕ) (n : ℕ) → EachLetter w → length w ≤ 16 → (written_so w keywords ≡ Name) ⊎ (w ≡ word (written_so w keywords)) → Spelt (token_of (keyword_of w) i n 0) w
   word-spelt w n a l (inl h) = name h a l h refl
   word-spelt w n a l (inr h) = fixed h refl
 
-  word_good : isLetter (get_or bs 0 0) ≡ true → (t : Token) → word_at i bs ≡ Part t → Good i bs t
-  word_good f t e = go (leb (prefix_len isLetter bs) 16) refl e
+  word_good : is_letter (get_or bs 0 0) ≡ true → (t : Token) → word_at i bs ≡ Part t → Good i bs t
+  word_good f t e = go (leb (prefix_len is_letter bs) 16) refl e
     where
-      go : (s : Bool) → leb (prefix_len isLetter bs) 16 ≡ s → cond s (Part (tokenOf (keywordOf (take (prefix_len isLetter bs) bs)) i (prefix_len isLetter bs) 0)) Bad ≡ Part t → Good i bs t
+      go : (s : Bool) → leb (prefix_len is_letter bs) 16 ≡ s → cond s (Part (token_of (keyword_of (take (prefix_len is_letter bs) bs)) i (prefix_len is_letter bs) 0)) Bad ≡ Part t → Good i bs t
       go true q h =
-          let fits = prefix_len-le-length isLetter bs in
-          let long = length-take-le (prefix_len isLetter bs) bs fits in
+          let fits = prefix_len-le-length is_letter bs in
+          let long = length-take-le (prefix_len is_letter bs) bs fits in
           let small = leb-true _ _ q in
-          let same : tokenOf (keywordOf (take (prefix_len isLetter bs) bs)) i (prefix_len isLetter bs) 0 ≡ t = cc in
-          subst (Good i bs) same (record { place = refl; some = run-some isLetter bs full f; fits = fits; spelt = word-spelt (take (prefix_len isLetter bs) bs) _ (run-passes isLetter bs) (omega arith) (written_as (take (prefix_len isLetter bs) bs) keywords); longest = word-longest f })
+          let same : token_of (keyword_of (take (prefix_len is_letter bs) bs)) i (prefix_len is_letter bs) 0 ≡ t = cc in
+          subst (Good i bs) same (record { place = refl; some = run-some is_letter bs full f; fits = fits; spelt = word-spelt (take (prefix_len is_letter bs) bs) _ (run-passes is_letter bs) (omega arith) (written_as (take (prefix_len is_letter bs) bs) keywords); longest = word-longest f })
       go false q h = let no : ◌≡◌ {A = ℕ} 0 1 = cc in let bad : ⊥ = omega arith in absurd bad
 
-  numeral-good : isDigit (get_or bs 0 0) ≡ true → (t : Token) → numeralAt i bs ≡ Part t → Good i bs t
-  numeral-good f t e = go (leb (prefix_len isDigit bs) 6) refl e
+  numeral-good : is_digit (get_or bs 0 0) ≡ true → (t : Token) → numeral_at i bs ≡ Part t → Good i bs t
+  numeral-good f t e = go (leb (prefix_len is_digit bs) 6) refl e
     where
-      go : (s : Bool) → leb (prefix_len isDigit bs) 6 ≡ s → cond s (Part (tokenOf Numeral i (prefix_len isDigit bs) (digits_value 10 (take (prefix_len isDigit bs) bs)))) Bad ≡ Part t → Good i bs t
+      go : (s : Bool) → leb (prefix_len is_digit bs) 6 ≡ s → cond s (Part (token_of Numeral i (prefix_len is_digit bs) (digits_value 10 (take (prefix_len is_digit bs) bs)))) Bad ≡ Part t → Good i bs t
       go true q h =
-          let fits = prefix_len-le-length isDigit bs in
-          let long = length-take-le (prefix_len isDigit bs) bs fits in
+          let fits = prefix_len-le-length is_digit bs in
+          let long = length-take-le (prefix_len is_digit bs) bs fits in
           let small = leb-true _ _ q in
-          let same : tokenOf Numeral i (prefix_len isDigit bs) (digits_value 10 (take (prefix_len isDigit bs) bs)) ≡ t = cc in
-          subst (Good i bs) same (record { place = refl; some = run-some isDigit bs full f; fits = fits; spelt = numeral refl (run-passes isDigit bs) (omega arith) refl; longest = numeral-longest f })
+          let same : token_of Numeral i (prefix_len is_digit bs) (digits_value 10 (take (prefix_len is_digit bs) bs)) ≡ t = cc in
+          subst (Good i bs) same (record { place = refl; some = run-some is_digit bs full f; fits = fits; spelt = numeral refl (run-passes is_digit bs) (omega arith) refl; longest = numeral-longest f })
       go false q h = let no : ◌≡◌ {A = ℕ} 0 1 = cc in let bad : ⊥ = omega arith in absurd bad
 
-  fixed-good : (k : Kind) (w : List ℕ) → word k ≡ w → take (length w) bs ≡ w → 0 < length w → length w ≤ length bs → Longest w (drop (length w) bs) → Good i bs (tokenOf k i (length (word k)) 0)
+  fixed-good : (k : Kind) (w : List ℕ) → word k ≡ w → take (length w) bs ≡ w → 0 < length w → length w ≤ length bs → Longest w (drop (length w) bs) → Good i bs (token_of k i (length (word k)) 0)
   fixed-good k w e f some fits far =
       let n : length (word k) ≡ length w = ap length e in
       let here : take (length (word k)) bs ≡ w = ap (λ m. take m bs) n ∙ f in
@@ -122,12 +122,12 @@ module _ (i : ℕ) (bs : List ℕ) (full : 0 < length bs) where
         longest = λ b more q g. far b more (ap (λ m. drop m bs) (sym n) ∙ q) (subst (λ (v : List ℕ). Grows v b) here g);
       }
 
-  module _ (f : isLetter (get_or bs 0 0) ≡ false) (g : isDigit (get_or bs 0 0) ≡ false) where
+  module _ (f : is_letter (get_or bs 0 0) ≡ false) (g : is_digit (get_or bs 0 0) ≡ false) where
     no-letter : (n : ℕ) → 0 < n → n ≤ length bs → EachLetter (take n bs) → ⊥
-    no-letter n h l a = both_ways (isLetter (get_or bs 0 0)) f (first-kept n h l (λ y. isLetter y ≡ true) a)
+    no-letter n h l a = both_ways (is_letter (get_or bs 0 0)) f (first-kept n h l (λ y. is_letter y ≡ true) a)
 
     no_digit : (n : ℕ) → 0 < n → n ≤ length bs → EachDigit (take n bs) → ⊥
-    no_digit n h l a = both_ways (isDigit (get_or bs 0 0)) g (first-kept n h l (λ y. isDigit y ≡ true) a)
+    no_digit n h l a = both_ways (is_digit (get_or bs 0 0)) g (first-kept n h l (λ y. is_digit y ≡ true) a)
 
     second_fits : eqb (get_or bs 1 0) 61 ≡ true → 1 < length bs
     second_fits e = go (cases_lt 1 (length bs))
@@ -136,7 +136,7 @@ module _ (i : ℕ) (bs : List ℕ) (full : 0 < length bs) where
         go (inl h) = h
         go (inr h) = let p = get_or_past bs 1 0 h in let q = eqb-true _ _ e in let bad : ⊥ = omega arith in absurd bad
 
-    sign-tok : (k : Kind) → signs.Sign (get_or bs 0 0) (eqb (get_or bs 1 0) 61) k → Good i bs (tokenOf k i (length (word k)) 0)
+    sign-tok : (k : Kind) → signs.Sign (get_or bs 0 0) (eqb (get_or bs 1 0) 61) k → Good i bs (token_of k i (length (word k)) 0)
     sign-tok k (short e n) =
         let one : take 1 bs ≡ (get_or bs 0 0) ∷ [] = take_more bs 0 0 full in
         fixed-good k ((get_or bs 0 0) ∷ []) e one (omega arith) full
@@ -153,18 +153,18 @@ module _ (i : ℕ) (bs : List ℕ) (full : 0 < length bs) where
         (λ d h. no_digit 2 (omega arith) fits (subst EachDigit (sym two) d))
         (λ c p m h. let no : ◌≡◌ {A = ℕ} 2 1 = ap length p in omega arith))
 
-    sign-good : (t : Token) → signAt i bs ≡ Part t → Good i bs t
+    sign-good : (t : Token) → sign_at i bs ≡ Part t → Good i bs t
     sign-good t e = go (sign_of (get_or bs 0 0) (eqb (get_or bs 1 0) 61)) refl e
       where
-        go : (o : Option Kind) → sign_of (get_or bs 0 0) (eqb (get_or bs 1 0) 61) ≡ o → signBy i o ≡ Part t → Good i bs t
+        go : (o : Option Kind) → sign_of (get_or bs 0 0) (eqb (get_or bs 1 0) 61) ≡ o → sign_by i o ≡ Part t → Good i bs t
         go None q h = let no : ◌≡◌ {A = ℕ} 0 1 = cc in let bad : ⊥ = omega arith in absurd bad
-        go (Some k) q h = let same : tokenOf k i (length (word k)) 0 ≡ t = cc in subst (Good i bs) same (sign-tok k (sign-is (get_or bs 0 0) (eqb (get_or bs 1 0) 61) k q))
+        go (Some k) q h = let same : token_of k i (length (word k)) 0 ≡ t = cc in subst (Good i bs) same (sign-tok k (sign-is (get_or bs 0 0) (eqb (get_or bs 1 0) 61) k q))
 
   pub part-good : (t : Token) → piece_of i bs ≡ Part t → Good i bs t
   unfolding piece_of
-  part-good t e = go (isBlank (get_or bs 0 0)) (isLetter (get_or bs 0 0)) (isDigit (get_or bs 0 0)) refl refl e
+  part-good t e = go (is_blank (get_or bs 0 0)) (is_letter (get_or bs 0 0)) (is_digit (get_or bs 0 0)) refl refl e
     where
-      go : (p q r : Bool) → isLetter (get_or bs 0 0) ≡ q → isDigit (get_or bs 0 0) ≡ r → pieceBy (cond p Gap (cond q Word (cond r Number Sign))) i bs ≡ Part t → Good i bs t
+      go : (p q r : Bool) → is_letter (get_or bs 0 0) ≡ q → is_digit (get_or bs 0 0) ≡ r → piece_by (cond p Gap (cond q Word (cond r Number Sign))) i bs ≡ Part t → Good i bs t
       go true q r f g h = let no : ◌≡◌ {A = ℕ} 0 1 = cc in let bad : ⊥ = omega arith in absurd bad
       go false true r f g h = word_good f t h
       go false false true f g h = numeral-good g t h

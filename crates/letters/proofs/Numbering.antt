@@ -4,7 +4,7 @@ use Rattle.std.proofs.lemmas.Bool.{eqb-true, eq-eqb}
 use Rattle.letters.specs.declared.kind.Kind.{Kind}
 use Rattle.letters.specs.declared.kind.Kind.TheVariants.{Name, Numeral, End, Open, Close, OpenSquare, CloseSquare, Comma, Semicolon, Plus, Minus, Times, Less, AtMost, Equal, Unequal, Becomes, Rule, Needs, Gives, Let, In, If, Then, Else, Put, As, TheResult}
 use Rattle.letters.specs.Every.{kinds}
-use Rattle.letters.specs.Kinds.{number, sameKind}
+use Rattle.letters.specs.Kinds.{number, same_kind}
 
 pub numbered : (k : Kind) → get_or kinds (number k) Name ≡ k
 unfolding kinds
@@ -37,6 +37,6 @@ numbered Put = refl
 numbered As = refl
 numbered TheResult = refl
 
-pub same-kind-decides : (j k : Kind) → Decides (sameKind j k) (j ≡ k)
-unfolding sameKind
+pub same-kind-decides : (j k : Kind) → Decides (same_kind j k) (j ≡ k)
+unfolding same_kind
 same-kind-decides j k = (λ e. sym (numbered j) ∙ ap (λ n. get_or kinds n Name) (eqb-true (number j) (number k) e) ∙ numbered k, λ e. eq-eqb (number j) (number k) (ap number e))

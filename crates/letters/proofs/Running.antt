@@ -11,7 +11,7 @@ use Rattle.std.proofs.lemmas.Bool.Decides.{nat_tests}
 use Rattle.std.specs.Str.Parse.{digits_value}
 use Rattle.std.specs.Int.{IsInRange}
 use Rattle.std.specs.List.{prefix_len, AllByRecursion}
-use Rattle.letters.specs.Bytes.{isDigit, EachDigit}
+use Rattle.letters.specs.Bytes.{is_digit, EachDigit}
 
 -- each of the run passes
 pub run-passes : {X : Type 0} (p : X → Bool) (xs : List X) → AllByRecursion (λ b. p b ≡ true) (take (prefix_len p xs) xs)
@@ -47,13 +47,13 @@ own : IsNumeralModel EachDigit (digits_value 10)
 own = numerals_by_value EachDigit tells-each
 
 pub digit-range : (ds : List ℕ) (i : ℕ) → i < length ds → EachDigit ds → IsInRange 48 57 (get_or ds i 0)
-digit-range ds i h e = let d : isDigit (get_or ds i 0) ≡ true = All-get_or (λ b. isDigit b ≡ true) ds i 0 h e in let p = and_parts (leb 48 (get_or ds i 0)) (leb (get_or ds i 0) 57) d in (leb-true _ _ p.0, leb-true _ _ p.1)
+digit-range ds i h e = let d : is_digit (get_or ds i 0) ≡ true = All-get_or (λ b. is_digit b ≡ true) ds i 0 h e in let p = and_parts (leb 48 (get_or ds i 0)) (leb (get_or ds i 0) 57) d in (leb-true _ _ p.0, leb-true _ _ p.1)
 
 pub value-small : (ds : List ℕ) → length ds ≤ 6 → EachDigit ds → digits_value 10 ds < 1000000
 value-small ds h e = digits_value_short own ds 6 e h
 
 pub value-front : (ds : List ℕ) (i : ℕ) → i ≤ 6 → EachDigit ds → digits_value 10 (take i ds) < 1000000
-value-front ds i h e = value-small (take i ds) (simp length-take (omega arith)) (All-take (λ b. isDigit b ≡ true) i ds e)
+value-front ds i h e = value-small (take i ds) (simp length-take (omega arith)) (All-take (λ b. is_digit b ≡ true) i ds e)
 
 pub value-step : (ds : List ℕ) (i : ℕ) → i < length ds → EachDigit ds → digits_value 10 (take (i + 1) ds) ≡ digits_value 10 (take i ds) * 10 + (get_or ds i 0 - 48)
 value-step ds i h e = let d = digit_value_digit (get_or ds i 0) (digit-range ds i h e) in digits_value_more 10 ds i h ∙ ap (λ n. digits_value 10 (take i ds) * 10 + n) (omega arith)

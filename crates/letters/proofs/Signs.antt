@@ -5,7 +5,7 @@ use Rattle.std.proofs.lemmas.Bool.{eqb-true, and_parts, and_from, both_ways}
 use Rattle.std.specs.List.{AllByRecursion}
 use Rattle.letters.specs.declared.kind.Kind.{Kind}
 use Rattle.letters.specs.declared.kind.Kind.TheVariants.{Open, Close, OpenSquare, CloseSquare, Comma, Semicolon, Plus, Minus, Times, Less, AtMost, Equal, Unequal, Becomes}
-use Rattle.letters.specs.Bytes.{isLetter, EachLetter}
+use Rattle.letters.specs.Bytes.{is_letter, EachLetter}
 use Rattle.letters.specs.Cuts.{sign_of}
 use Rattle.letters.specs.Kinds.{word}
 use Rattle.letters.proofs.Sorts.{Mark, Sort, bare, keyword, lone, pair, sort-of}
@@ -49,7 +49,7 @@ module _ (x : ℕ) (e : Bool) (k : Kind) where
 
 -- bytes that a byte makes into a keyword or a sign: letters and a letter, or one of < ! : and =
 pub data Longer (w : List ℕ) (b : ℕ) : Type 0 where
-  letters : EachLetter w → isLetter b ≡ true → Longer w b
+  letters : EachLetter w → is_letter b ≡ true → Longer w b
   equals : (c : ℕ) → w ≡ c ∷ [] → Mark c → b ≡ 61 → Longer w b
 
 push-parts : (P : ℕ → Type 0) (w : List ℕ) (b : ℕ) → AllByRecursion P (w ++ b ∷ []) → AllByRecursion P w × P b
@@ -61,6 +61,6 @@ longer w b some k e = go (sort-of k)
   where
     go : Sort k → Longer w b
     go (bare h) = let l = length_push w b in let n = ap length (e ∙ h) in let bad : ⊥ = omega arith in absurd bad
-    go (keyword a l h) = let p = push-parts (λ y. isLetter y ≡ true) w b (subst EachLetter (sym e) a) in letters p.0 p.1
+    go (keyword a l h) = let p = push-parts (λ y. is_letter y ≡ true) w b (subst EachLetter (sym e) a) in letters p.0 p.1
     go (lone c h f) = let n = ap length (same_from_push w [] b c (e ∙ h)).0 in let bad : ⊥ = omega arith in absurd bad
     go (pair c m h f) = let p = same_from_push w (c ∷ []) b 61 (e ∙ h) in equals c p.0 m p.1

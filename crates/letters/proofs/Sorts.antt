@@ -5,10 +5,10 @@ use Rattle.letters.specs.declared.kind.Kind.{Kind}
 use Rattle.letters.specs.declared.kind.Kind.TheVariants.{Name, Numeral, End, Open, Close, OpenSquare, CloseSquare, Comma, Semicolon, Plus, Minus, Times, Less, AtMost, Equal, Unequal, Becomes, Rule, Needs, Gives, Let, In, If, Then, Else, Put, As, TheResult}
 use Rattle.letters.specs.declared.cutting.Piece.TheVariants.{Part}
 use Rattle.letters.specs.Bytes.{EachLetter}
-use Rattle.letters.specs.Cuts.{sign_of, signBy, piece_of}
-use Rattle.letters.specs.Kinds.{word, writtenSo, keywordOf}
+use Rattle.letters.specs.Cuts.{sign_of, sign_by, piece_of}
+use Rattle.letters.specs.Kinds.{word, written_so, keyword_of}
 use Rattle.letters.specs.Spelling.{Longest, to-sign}
-use Rattle.letters.specs.Tokens.{tokenOf}
+use Rattle.letters.specs.Tokens.{token_of}
 
 -- < ! : begin the signs of two bytes
 abbrev pub Mark : ℕ → Type 0
@@ -17,22 +17,22 @@ Mark c = (c ≡ 60) ⊎ ((c ≡ 33) ⊎ (c ≡ 58))
 -- no bytes of its own, a keyword, a sign of one byte, a sign of two
 pub data Sort (k : Kind) : Type 0 where
   bare : word k ≡ [] → Sort k
-  keyword : EachLetter (word k) → length (word k) ≤ 16 → keywordOf (word k) ≡ k → Sort k
-  lone : (c : ℕ) → word k ≡ c ∷ [] → ((i : ℕ) (after : List ℕ) → Longest (c ∷ []) after → piece_of i (c ∷ after) ≡ Part (tokenOf k i 1 0)) → Sort k
-  pair : (c : ℕ) → Mark c → word k ≡ c ∷ 61 ∷ [] → ((i : ℕ) (after : List ℕ) → piece_of i (c ∷ 61 ∷ after) ≡ Part (tokenOf k i 2 0)) → Sort k
+  keyword : EachLetter (word k) → length (word k) ≤ 16 → keyword_of (word k) ≡ k → Sort k
+  lone : (c : ℕ) → word k ≡ c ∷ [] → ((i : ℕ) (after : List ℕ) → Longest (c ∷ []) after → piece_of i (c ∷ after) ≡ Part (token_of k i 1 0)) → Sort k
+  pair : (c : ℕ) → Mark c → word k ≡ c ∷ 61 ∷ [] → ((i : ℕ) (after : List ℕ) → piece_of i (c ∷ 61 ∷ after) ≡ Part (token_of k i 2 0)) → Sort k
 
 -- an equals sign after < would make it longer
-less-piece : (i : ℕ) (after : List ℕ) → Longest (60 ∷ []) after → piece_of i (60 ∷ after) ≡ Part (tokenOf Less i 1 0)
+less-piece : (i : ℕ) (after : List ℕ) → Longest (60 ∷ []) after → piece_of i (60 ∷ after) ≡ Part (token_of Less i 1 0)
 unfolding piece_of
 less-piece i [] far = refl
-less-piece i (b ∷ more) far = ap (λ t. signBy i (sign_of 60 t)) (go (eqb b 61) refl)
+less-piece i (b ∷ more) far = ap (λ t. sign_by i (sign_of 60 t)) (go (eqb b 61) refl)
   where
     go : (t : Bool) → eqb b 61 ≡ t → t ≡ false
     go true q = absurd (far b more refl (to-sign AtMost (ap (λ x. 60 ∷ x ∷ []) (eqb-true b 61 q))))
     go false q = refl
 
 pub sort-of : (k : Kind) → Sort k
-unfolding piece_of writtenSo
+unfolding piece_of written_so
 sort-of Name = bare refl
 sort-of Numeral = bare refl
 sort-of End = bare refl

@@ -7,59 +7,59 @@ use Rattle.letters.specs.declared.misspelt.Misspelt.{Misspelt}
 use Rattle.letters.specs.declared.misspelt.Misspelt.TheVariants.{Length, Letter}
 use Rattle.letters.specs.declared.cutting.Piece.{Piece}
 use Rattle.letters.specs.declared.cutting.Piece.TheVariants.{Blank, Part, Bad}
-use Rattle.letters.specs.Cuts.{piece_of, openAfter, Cut, done, stop, put, putBy, cutBy, cutFrom, cut_of, laid}
+use Rattle.letters.specs.Cuts.{piece_of, open_after, Cut, done, stop, put, put_by, cut_by, cut_from, cut_of, laid}
 use Rattle.letters.proofs.Pieces.{first-at}
 
-pub skips : (n o i : ℕ) (bs : List ℕ) → cutFrom n o i bs ≡ cutFrom 0 o (i + n) (drop n bs)
-unfolding cutFrom
+pub skips : (n o i : ℕ) (bs : List ℕ) → cut_from n o i bs ≡ cut_from 0 o (i + n) (drop n bs)
+unfolding cut_from
 skips zero o i [] = refl
 skips (suc n) o i [] = refl
-skips zero o i (b ∷ bs) = ap (λ j. cutFrom 0 o j (b ∷ bs)) (sym (add-zero i))
-skips (suc n) o i (b ∷ bs) = skips n o (suc i) bs ∙ ap (λ j. cutFrom 0 o j (drop n bs)) (suc-add i n ∙ sym (add-suc i n))
+skips zero o i (b ∷ bs) = ap (λ j. cut_from 0 o j (b ∷ bs)) (sym (add-zero i))
+skips (suc n) o i (b ∷ bs) = skips n o (suc i) bs ∙ ap (λ j. cut_from 0 o j (drop n bs)) (suc-add i n ∙ sym (add-suc i n))
 
 -- by what stands at the front
 module _ (i o : ℕ) (xs : List ℕ) (h : 0 < length xs) where
-  front : (p : Piece) → p ≡ piece_of i xs → cutFrom 0 o i xs ≡ cutBy p i (get_or xs 0 0) o (λ n d. cutFrom n d (suc i) (drop 1 xs))
-  unfolding cutFrom
-  front p e = ap (cutFrom 0 o i) (drop_more xs 0 0 h) ∙ ap (λ q. cutBy q i (get_or xs 0 0) o (λ n d. cutFrom n d (suc i) (drop 1 xs))) (ap (piece_of i) (sym (drop_more xs 0 0 h)) ∙ sym e)
+  front : (p : Piece) → p ≡ piece_of i xs → cut_from 0 o i xs ≡ cut_by p i (get_or xs 0 0) o (λ n d. cut_from n d (suc i) (drop 1 xs))
+  unfolding cut_from
+  front p e = ap (cut_from 0 o i) (drop_more xs 0 0 h) ∙ ap (λ q. cut_by q i (get_or xs 0 0) o (λ n d. cut_from n d (suc i) (drop 1 xs))) (ap (piece_of i) (sym (drop_more xs 0 0 h)) ∙ sym e)
 
-  pub front-blank : Blank ≡ piece_of i xs → cutFrom 0 o i xs ≡ cutFrom 0 o (suc i) (drop 1 xs)
+  pub front-blank : Blank ≡ piece_of i xs → cut_from 0 o i xs ≡ cut_from 0 o (suc i) (drop 1 xs)
   front-blank e = front Blank e
 
-  pub front-bad : Bad ≡ piece_of i xs → cutFrom 0 o i xs ≡ stop (Letter i)
+  pub front-bad : Bad ≡ piece_of i xs → cut_from 0 o i xs ≡ stop (Letter i)
   front-bad e = front Bad e
 
-  pub front-full : (t : Token) (m : Misspelt) → Part t ≡ piece_of i xs → Err m ≡ openAfter (get_or xs 0 0) o i → cutFrom 0 o i xs ≡ stop m
-  front-full t m e q = front (Part t) e ∙ ap (λ r. putBy t r (λ d. cutFrom (t.size - 1) d (suc i) (drop 1 xs))) (sym q)
+  pub front-full : (t : Token) (m : Misspelt) → Part t ≡ piece_of i xs → Err m ≡ open_after (get_or xs 0 0) o i → cut_from 0 o i xs ≡ stop m
+  front-full t m e q = front (Part t) e ∙ ap (λ r. put_by t r (λ d. cut_from (t.size - 1) d (suc i) (drop 1 xs))) (sym q)
 
-  pub front-part : (t : Token) (d : ℕ) → Part t ≡ piece_of i xs → 0 < t.size → Ok d ≡ openAfter (get_or xs 0 0) o i → cutFrom 0 o i xs ≡ put t (cutFrom 0 d (i + t.size) (drop t.size xs))
+  pub front-part : (t : Token) (d : ℕ) → Part t ≡ piece_of i xs → 0 < t.size → Ok d ≡ open_after (get_or xs 0 0) o i → cut_from 0 o i xs ≡ put t (cut_from 0 d (i + t.size) (drop t.size xs))
   front-part t d e k q =
-      front (Part t) e ∙ ap (λ r. putBy t r (λ d. cutFrom (t.size - 1) d (suc i) (drop 1 xs))) (sym q)
-      ∙ ap (put t) (skips (t.size - 1) d (suc i) (drop 1 xs) ∙ ap₂ (cutFrom 0 d) (omega arith) (drop-drop (t.size - 1) 1 xs ∙ ap (λ j. drop j xs) (omega arith)))
+      front (Part t) e ∙ ap (λ r. put_by t r (λ d. cut_from (t.size - 1) d (suc i) (drop 1 xs))) (sym q)
+      ∙ ap (put t) (skips (t.size - 1) d (suc i) (drop 1 xs) ∙ ap₂ (cut_from 0 d) (omega arith) (drop-drop (t.size - 1) 1 xs ∙ ap (λ j. drop j xs) (omega arith)))
 
 -- by what stands at a place
 module _ (xs : List ℕ) (i o : ℕ) (h : i < length xs) where
   some : 0 < length (drop i xs)
   some = let l = length-drop i xs in omega arith
 
-  pub cut-blank : Blank ≡ piece_of i (drop i xs) → cutFrom 0 o i (drop i xs) ≡ cutFrom 0 o (i + 1) (drop (i + 1) xs)
-  cut-blank e = front-blank i o (drop i xs) some e ∙ ap₂ (cutFrom 0 o) (sym (add-one i)) (drop-drop 1 i xs)
+  pub cut-blank : Blank ≡ piece_of i (drop i xs) → cut_from 0 o i (drop i xs) ≡ cut_from 0 o (i + 1) (drop (i + 1) xs)
+  cut-blank e = front-blank i o (drop i xs) some e ∙ ap₂ (cut_from 0 o) (sym (add-one i)) (drop-drop 1 i xs)
 
-  pub cut-bad : Bad ≡ piece_of i (drop i xs) → cutFrom 0 o i (drop i xs) ≡ stop (Letter i)
+  pub cut-bad : Bad ≡ piece_of i (drop i xs) → cut_from 0 o i (drop i xs) ≡ stop (Letter i)
   cut-bad e = front-bad i o (drop i xs) some e
 
-  pub cut-full : (t : Token) (m : Misspelt) → Part t ≡ piece_of i (drop i xs) → Err m ≡ openAfter (get_or xs i 0) o i → cutFrom 0 o i (drop i xs) ≡ stop m
-  cut-full t m e q = front-full i o (drop i xs) some t m e (q ∙ ap (λ b. openAfter b o i) (sym (first-at xs i)))
+  pub cut-full : (t : Token) (m : Misspelt) → Part t ≡ piece_of i (drop i xs) → Err m ≡ open_after (get_or xs i 0) o i → cut_from 0 o i (drop i xs) ≡ stop m
+  cut-full t m e q = front-full i o (drop i xs) some t m e (q ∙ ap (λ b. open_after b o i) (sym (first-at xs i)))
 
-  pub cut-part : (t : Token) (d : ℕ) → Part t ≡ piece_of i (drop i xs) → 0 < t.size → Ok d ≡ openAfter (get_or xs i 0) o i → cutFrom 0 o i (drop i xs) ≡ put t (cutFrom 0 d (i + t.size) (drop (i + t.size) xs))
-  cut-part t d e k q = front-part i o (drop i xs) some t d e k (q ∙ ap (λ b. openAfter b o i) (sym (first-at xs i))) ∙ ap (λ (l : List ℕ). put t (cutFrom 0 d (i + t.size) l)) (drop-drop t.size i xs)
+  pub cut-part : (t : Token) (d : ℕ) → Part t ≡ piece_of i (drop i xs) → 0 < t.size → Ok d ≡ open_after (get_or xs i 0) o i → cut_from 0 o i (drop i xs) ≡ put t (cut_from 0 d (i + t.size) (drop (i + t.size) xs))
+  cut-part t d e k q = front-part i o (drop i xs) some t d e k (q ∙ ap (λ b. open_after b o i) (sym (first-at xs i))) ∙ ap (λ (l : List ℕ). put t (cut_from 0 d (i + t.size) l)) (drop-drop t.size i xs)
 
-pub cut-none : (i o : ℕ) → cutFrom 0 o i [] ≡ done
-unfolding cutFrom
+pub cut-none : (i o : ℕ) → cut_from 0 o i [] ≡ done
+unfolding cut_from
 cut-none i o = refl
 
-pub cut-end : (xs : List ℕ) (i o : ℕ) → length xs ≤ i → cutFrom 0 o i (drop i xs) ≡ done
-cut-end xs i o h = at_drop_all (cutFrom 0 o i) xs i h ∙ cut-none i o
+pub cut-end : (xs : List ℕ) (i o : ℕ) → length xs ≤ i → cut_from 0 o i (drop i xs) ≡ done
+cut-end xs i o h = at_drop_all (cut_from 0 o i) xs i h ∙ cut-none i o
 
 -- tokens before a cut
 abbrev pub before : List Token → Cut → Cut
@@ -74,10 +74,10 @@ before-stop ts f = ap (λ (us : List Token). record { tokens = us; fault = f }) 
 pub laid-is : (n : ℕ) (new old : List Token) → n ≤ length new → drop n new ≡ drop n old → new ≡ laid (take n new) old
 laid-is n new old h e = sym (ap (λ m. take n new ++ drop m old) (length-take-le n new h) ∙ ap (λ (l : List Token). take n new ++ l) (sym e) ∙ take-append-drop n new)
 
-pub cut-is : (text : List ℕ) → length text ≤ 16384 → cut_of text ≡ cutFrom 0 0 0 text
+pub cut-is : (text : List ℕ) → length text ≤ 16384 → cut_of text ≡ cut_from 0 0 0 text
 unfolding cut_of
-cut-is text h = ap (λ b. cond b (cutFrom 0 0 0 text) (stop Length)) (le-leb (length text) 16384 h)
+cut-is text h = ap (λ b. cond b (cut_from 0 0 0 text) (stop Length)) (le-leb (length text) 16384 h)
 
 pub cut-long : (text : List ℕ) → 16384 < length text → cut_of text ≡ stop Length
 unfolding cut_of
-cut-long text h = ap (λ b. cond b (cutFrom 0 0 0 text) (stop Length)) (lt-leb (length text) 16384 h)
+cut-long text h = ap (λ b. cond b (cut_from 0 0 0 text) (stop Length)) (lt-leb (length text) 16384 h)

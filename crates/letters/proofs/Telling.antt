@@ -8,8 +8,8 @@ use Rattle.letters.specs.declared.misspelt.Misspelt.TheVariants.{Length, Letter,
 use Rattle.letters.specs.declared.cutting.Piece.{Piece}
 use Rattle.letters.specs.declared.cutting.Piece.TheVariants.{Blank, Part, Bad}
 use Rattle.letters.specs.declared.cutting.Lead.TheVariants.{Gap, Word, Number, Sign}
-use Rattle.letters.specs.Bytes.{isBlank, isLetter, isDigit, isOpening, isClosing}
-use Rattle.letters.specs.Cuts.{signBy, pieceBy, piece_of, openAfter, Cut, stop, put, cutFrom, answerBy}
+use Rattle.letters.specs.Bytes.{is_blank, is_letter, is_digit, is_opening, is_closing}
+use Rattle.letters.specs.Cuts.{sign_by, piece_by, piece_of, open_after, Cut, stop, put, cut_from, answer_by}
 use Rattle.letters.specs.Spelling.{Reads, end, blank, token, Told}
 use Rattle.letters.proofs.Exact.{spelt-piece, blank-piece, stuck}
 use Rattle.letters.proofs.Good.{Good, part-good}
@@ -20,7 +20,7 @@ use Rattle.letters.proofs.Steps.{front-blank, front-bad, front-full, front-part,
 abbrev pub Why : Misspelt → ℕ → List ℕ → Type 0
 Why Length j left = ⊥
 Why (Letter i) j left = (j ≡ i) × (Bad ≡ piece_of i left)
-Why (Brackets i) j left = (j ≡ i) × (isOpening (get_or left 0 0) ≡ true)
+Why (Brackets i) j left = (j ≡ i) × (is_opening (get_or left 0 0) ≡ true)
 
 -- what is left, from place i on, at the end or the fault
 abbrev pub Leaves : Option Misspelt → ℕ → List ℕ → List ℕ → Type 0
@@ -38,28 +38,28 @@ leaves-on (Some m) i n bs left h =
     let j = h.0 in let le : i + n ≤ h.0 = h.1 in
     (h.0, omega arith, h.2 ∙ drop-drop (h.0 - (i + n)) n bs ∙ ap (λ k. drop k bs) (omega arith), h.3, h.4)
 
-pub blank-first : (i : ℕ) (bs : List ℕ) → Blank ≡ piece_of i bs → isBlank (get_or bs 0 0) ≡ true
+pub blank-first : (i : ℕ) (bs : List ℕ) → Blank ≡ piece_of i bs → is_blank (get_or bs 0 0) ≡ true
 unfolding piece_of
-blank-first i bs e = go (isBlank (get_or bs 0 0)) (isLetter (get_or bs 0 0)) (isDigit (get_or bs 0 0)) e
+blank-first i bs e = go (is_blank (get_or bs 0 0)) (is_letter (get_or bs 0 0)) (is_digit (get_or bs 0 0)) e
   where
     no_word : (s : Bool) (t : Token) → Blank ≡ cond s (Part t) Bad → ⊥
     no_word true t h = let no : ◌≡◌ {A = ℕ} 0 1 = cc in omega arith
     no_word false t h = let no : ◌≡◌ {A = ℕ} 0 1 = cc in omega arith
 
-    no_sign : (o : Option Kind) → Blank ≡ signBy i o → ⊥
+    no_sign : (o : Option Kind) → Blank ≡ sign_by i o → ⊥
     no_sign None h = let no : ◌≡◌ {A = ℕ} 0 1 = cc in omega arith
     no_sign (Some k) h = let no : ◌≡◌ {A = ℕ} 0 1 = cc in omega arith
 
-    go : (p q r : Bool) → Blank ≡ pieceBy (cond p Gap (cond q Word (cond r Number Sign))) i bs → p ≡ true
+    go : (p q r : Bool) → Blank ≡ piece_by (cond p Gap (cond q Word (cond r Number Sign))) i bs → p ≡ true
     go true q r h = refl
     go false true r h = absurd (no_word _ _ h)
     go false false true h = absurd (no_word _ _ h)
     go false false false h = absurd (no_sign _ h)
 
-pub open-err : (b d i : ℕ) (m : Misspelt) → Err m ≡ openAfter b d i → (m ≡ Brackets i) × (isOpening b ≡ true)
-open-err b d i m e = go (isOpening b) (ltb d 64) e
+pub open-err : (b d i : ℕ) (m : Misspelt) → Err m ≡ open_after b d i → (m ≡ Brackets i) × (is_opening b ≡ true)
+open-err b d i m e = go (is_opening b) (ltb d 64) e
   where
-    go : (p q : Bool) → Err m ≡ cond p (cond q (Ok (d + 1)) (Err (Brackets i))) (Ok (cond (isClosing b) (d - 1) d)) → (m ≡ Brackets i) × (p ≡ true)
+    go : (p q : Bool) → Err m ≡ cond p (cond q (Ok (d + 1)) (Err (Brackets i))) (Ok (cond (is_closing b) (d - 1) d)) → (m ≡ Brackets i) × (p ≡ true)
     go true q h = (elim q as (λ v. Err m ≡ cond v (Ok (d + 1)) (Err (Brackets i)) → m ≡ Brackets i) [ true ↦ λ h. cc | false ↦ λ h. cc ] h, refl)
     go false q h = (cc, cc)
 
@@ -77,11 +77,11 @@ module _ (i : ℕ) (bs : List ℕ) (full : 0 < length bs) where
   stopped : (m : Misspelt) → Why m i bs → Outcome i bs (stop m)
   stopped m w = let z : 0 ≡ i - i = omega arith in record { left = bs; reads = end; leaves = (i, omega arith, ap (λ k. drop k bs) z, full, w) }
 
-on-blank : (i b : ℕ) (bs : List ℕ) (c : Cut) → isBlank b ≡ true → Outcome (suc i) bs c → Outcome i (b ∷ bs) c
+on-blank : (i b : ℕ) (bs : List ℕ) (c : Cut) → is_blank b ≡ true → Outcome (suc i) bs c → Outcome i (b ∷ bs) c
 on-blank i b bs c e o = record { left = o.left; reads = blank e o.reads; leaves = leaves-on c.fault i 1 (b ∷ bs) o.left (subst (λ j. Leaves c.fault j bs o.left) (sym (add-one i)) o.leaves) }
 
-module _ (n d i b : ℕ) (bs : List ℕ) (short : length bs ≤ n) (rest : (d i : ℕ) (l : List ℕ) → length l ≤ n → Outcome i l (cutFrom 0 d i l)) where
-  token-step : (t : Token) (r : Result ℕ Misspelt) → Part t ≡ piece_of i (b ∷ bs) → Good i (b ∷ bs) t → r ≡ openAfter b d i → Outcome i (b ∷ bs) (cutFrom 0 d i (b ∷ bs))
+module _ (n d i b : ℕ) (bs : List ℕ) (short : length bs ≤ n) (rest : (d i : ℕ) (l : List ℕ) → length l ≤ n → Outcome i l (cut_from 0 d i l)) where
+  token-step : (t : Token) (r : Result ℕ Misspelt) → Part t ≡ piece_of i (b ∷ bs) → Good i (b ∷ bs) t → r ≡ open_after b d i → Outcome i (b ∷ bs) (cut_from 0 d i (b ∷ bs))
   token-step t (Ok o) e g q =
       let some = g.some in
       let l = length-drop t.size (b ∷ bs) in
@@ -90,28 +90,28 @@ module _ (n d i b : ℕ) (bs : List ℕ) (short : length bs ≤ n) (rest : (d i 
       let o = open-err b d i m q in
       subst (Outcome i (b ∷ bs)) (ap stop (sym o.0) ∙ sym (front-full i d (b ∷ bs) (omega arith) t m e q)) (stopped i (b ∷ bs) (omega arith) (Brackets i) (refl, o.1))
 
-  step : (p : Piece) → p ≡ piece_of i (b ∷ bs) → Outcome i (b ∷ bs) (cutFrom 0 d i (b ∷ bs))
+  step : (p : Piece) → p ≡ piece_of i (b ∷ bs) → Outcome i (b ∷ bs) (cut_from 0 d i (b ∷ bs))
   step Blank e = subst (Outcome i (b ∷ bs)) (sym (front-blank i d (b ∷ bs) (omega arith) e)) (on-blank i b bs _ (blank-first i (b ∷ bs) e) (rest d (suc i) bs short))
-  step (Part t) e = token-step t (openAfter b d i) e (part-good i (b ∷ bs) (omega arith) t (sym e)) refl
+  step (Part t) e = token-step t (open_after b d i) e (part-good i (b ∷ bs) (omega arith) t (sym e)) refl
   step Bad e = subst (Outcome i (b ∷ bs)) (sym (front-bad i d (b ∷ bs) (omega arith) e)) (stopped i (b ∷ bs) (omega arith) (Letter i) (refl, e))
 
-pub outcome : (n d i : ℕ) (bs : List ℕ) → length bs ≤ n → Outcome i bs (cutFrom 0 d i bs)
+pub outcome : (n d i : ℕ) (bs : List ℕ) → length bs ≤ n → Outcome i bs (cut_from 0 d i bs)
 outcome n d i [] h = subst (Outcome i []) (sym (cut-none i d)) (record { left = []; reads = end; leaves = refl })
 outcome zero d i (b ∷ bs) h = let bad : ⊥ = omega arith in absurd bad
 outcome (suc n) d i (b ∷ bs) h = step n d i b bs (omega arith) (λ d j l q. outcome n d j l q) (piece_of i (b ∷ bs)) refl
 
 -- a text that is cut to its end is read in this way only
-pub only : {i : ℕ} {bs left : List ℕ} {ts : List Token} → Reads i bs ts left → (d : ℕ) → left ≡ [] → (cutFrom 0 d i bs).fault ≡ None → ts ≡ (cutFrom 0 d i bs).tokens
-only (end {i} {left}) d e f = sym (ap (λ (l : List ℕ). (cutFrom 0 d i l).tokens) e ∙ ap (λ (c : Cut). c.tokens) (cut-none i d))
+pub only : {i : ℕ} {bs left : List ℕ} {ts : List Token} → Reads i bs ts left → (d : ℕ) → left ≡ [] → (cut_from 0 d i bs).fault ≡ None → ts ≡ (cut_from 0 d i bs).tokens
+only (end {i} {left}) d e f = sym (ap (λ (l : List ℕ). (cut_from 0 d i l).tokens) e ∙ ap (λ (c : Cut). c.tokens) (cut-none i d))
 only (blank {i} {b} {bs} q r) d e f =
     let s = front-blank i d (b ∷ bs) (omega arith) (blank-piece i (b ∷ bs) q) in
     only r d e (ap (λ (c : Cut). c.fault) (sym s) ∙ f) ∙ ap (λ (c : Cut). c.tokens) (sym s)
-only (token {i} {w} {bs} {left} {t} {ts} place size some spelt far r) d e f = go (openAfter (get_or (w ++ bs) 0 0) d i) refl (λ o q. only r o e q)
+only (token {i} {w} {bs} {left} {t} {ts} place size some spelt far r) d e f = go (open_after (get_or (w ++ bs) 0 0) d i) refl (λ o q. only r o e q)
   where
-    go : (a : Result ℕ Misspelt) → a ≡ openAfter (get_or (w ++ bs) 0 0) d i → ((o : ℕ) → (cutFrom 0 o (i + length w) bs).fault ≡ None → ts ≡ (cutFrom 0 o (i + length w) bs).tokens) → t ∷ ts ≡ (cutFrom 0 d i (w ++ bs)).tokens
+    go : (a : Result ℕ Misspelt) → a ≡ open_after (get_or (w ++ bs) 0 0) d i → ((o : ℕ) → (cut_from 0 o (i + length w) bs).fault ≡ None → ts ≡ (cut_from 0 o (i + length w) bs).tokens) → t ∷ ts ≡ (cut_from 0 d i (w ++ bs)).tokens
     go (Ok o) q rest =
         let long = length-append w bs in
-        let s = front-part i d (w ++ bs) (omega arith) t o (spelt-piece i t w bs place size some spelt far) (omega arith) q ∙ ap₂ (λ n (l : List ℕ). put t (cutFrom 0 o (i + n) l)) size (drop_at w bs t.size (sym size)) in
+        let s = front-part i d (w ++ bs) (omega arith) t o (spelt-piece i t w bs place size some spelt far) (omega arith) q ∙ ap₂ (λ n (l : List ℕ). put t (cut_from 0 o (i + n) l)) size (drop_at w bs t.size (sym size)) in
         ap (λ (us : List Token). t ∷ us) (rest o (ap (λ (c : Cut). c.fault) (sym s) ∙ f)) ∙ ap (λ (c : Cut). c.tokens) (sym s)
     go (Err m) q rest =
         let long = length-append w bs in
@@ -119,7 +119,7 @@ only (token {i} {w} {bs} {left} {t} {ts} place size some spelt far r) d e f = go
         let stops : ◌≡◌ {A = Option Misspelt} (Some m) None = ap (λ (c : Cut). c.fault) (sym s) ∙ f in
         let no : ◌≡◌ {A = ℕ} 0 1 = cc in let bad : ⊥ = omega arith in absurd bad
 
-pub told-by : (text : List ℕ) (ts new : List Token) (f : Option Misspelt) (left : List ℕ) → take (length ts) new ≡ ts → (f ≡ None → (us : List Token) → Reads 0 text us [] → us ≡ ts) → Reads 0 text ts left → Leaves f 0 text left → Told text (answerBy f (length ts)) new
+pub told-by : (text : List ℕ) (ts new : List Token) (f : Option Misspelt) (left : List ℕ) → take (length ts) new ≡ ts → (f ≡ None → (us : List Token) → Reads 0 text us [] → us ≡ ts) → Reads 0 text ts left → Leaves f 0 text left → Told text (answer_by f (length ts)) new
 told-by text ts new None left e sole r l = (subst (λ (us : List Token). Reads 0 text us []) (sym e) (subst (Reads 0 text ts) l r), λ us h. sole refl us h ∙ sym e)
 told-by text ts new (Some Length) left e sole r l = absurd l.4
 told-by text ts new (Some (Letter i)) left e sole r l =
@@ -131,5 +131,5 @@ told-by text ts new (Some (Brackets i)) left e sole r l =
     let n = ap length p ∙ length-drop i text in (
       omega (arith, l.3),
       (length ts, subst (λ (us : List Token). Reads 0 text us (drop i text)) (sym e) (subst (Reads 0 text ts) p r)),
-      ap isOpening (sym (first-at text i) ∙ ap (λ (l : List ℕ). get_or l 0 0) (sym p)) ∙ l.4.1,
+      ap is_opening (sym (first-at text i) ∙ ap (λ (l : List ℕ). get_or l 0 0) (sym p)) ∙ l.4.1,
     )

@@ -11,23 +11,23 @@ use Rattle.letters.specs.declared.cutting.Lead.{Lead}
 use Rattle.letters.specs.declared.cutting.Lead.TheVariants.{Gap, Word, Number, Sign}
 use Rattle.letters.specs.declared.cutting.Piece.{Piece}
 use Rattle.letters.specs.declared.cutting.Piece.TheVariants.{Blank, Part, Bad}
-use Rattle.letters.specs.Bytes.{isLetter, isDigit, isOpening, isClosing, leadOf}
-use Rattle.letters.specs.Kinds.{word, keywordOf}
-use Rattle.letters.specs.Tokens.{tokenOf}
+use Rattle.letters.specs.Bytes.{is_letter, is_digit, is_opening, is_closing, lead_of}
+use Rattle.letters.specs.Kinds.{word, keyword_of}
+use Rattle.letters.specs.Tokens.{token_of}
 
 -- the word at the front: the run of letters there, a keyword or a name; a run of more than 16 is none
-abbrev pub wordBy : ℕ → List ℕ → ℕ → Piece
-wordBy i bs n = cond (nat_le n 16) (Part (tokenOf (keywordOf (take n bs)) i n 0)) Bad
+abbrev pub word_by : ℕ → List ℕ → ℕ → Piece
+word_by i bs n = cond (nat_le n 16) (Part (token_of (keyword_of (take n bs)) i n 0)) Bad
 
 abbrev pub word_at : ℕ → List ℕ → Piece
-word_at i bs = wordBy i bs (prefix_len isLetter bs)
+word_at i bs = word_by i bs (prefix_len is_letter bs)
 
 -- the numeral at the front: the run of digits there; a run of more than 6 is none
-abbrev pub numeralBy : ℕ → List ℕ → ℕ → Piece
-numeralBy i bs n = cond (nat_le n 6) (Part (tokenOf Numeral i n (digits_value 10 (take n bs)))) Bad
+abbrev pub numeral_by : ℕ → List ℕ → ℕ → Piece
+numeral_by i bs n = cond (nat_le n 6) (Part (token_of Numeral i n (digits_value 10 (take n bs)))) Bad
 
-abbrev pub numeralAt : ℕ → List ℕ → Piece
-numeralAt i bs = numeralBy i bs (prefix_len isDigit bs)
+abbrev pub numeral_at : ℕ → List ℕ → Piece
+numeral_at i bs = numeral_by i bs (prefix_len is_digit bs)
 
 -- the sign that begins with a byte, by whether an equals sign follows
 abbrev pub sign_of : ℕ → Bool → Option Kind
@@ -37,26 +37,26 @@ sign_of b equals =
     (cond (b == 44) (Some Comma) (cond (b == 59) (Some Semicolon) (cond (b == 43) (Some Plus) (cond (b == 45) (Some Minus)
     (cond (b == 42) (Some Times) (cond (b == 60) (Some Less) (cond (b == 61) (Some Equal) None)))))))))))))
 
-abbrev pub signBy : ℕ → Option Kind → Piece
-signBy i None = Bad
-signBy i (Some k) = Part (tokenOf k i (length (word k)) 0)
+abbrev pub sign_by : ℕ → Option Kind → Piece
+sign_by i None = Bad
+sign_by i (Some k) = Part (token_of k i (length (word k)) 0)
 
-abbrev pub signAt : ℕ → List ℕ → Piece
-signAt i bs = signBy i (sign_of (slice_index bs 0) (slice_index bs 1 == 61))
+abbrev pub sign_at : ℕ → List ℕ → Piece
+sign_at i bs = sign_by i (sign_of (slice_index bs 0) (slice_index bs 1 == 61))
 
 -- what stands at the front of the bytes from place i on
-abbrev pub pieceBy : Lead → ℕ → List ℕ → Piece
-pieceBy Gap i bs = Blank
-pieceBy Word i bs = word_at i bs
-pieceBy Number i bs = numeralAt i bs
-pieceBy Sign i bs = signAt i bs
+abbrev pub piece_by : Lead → ℕ → List ℕ → Piece
+piece_by Gap i bs = Blank
+piece_by Word i bs = word_at i bs
+piece_by Number i bs = numeral_at i bs
+piece_by Sign i bs = sign_at i bs
 
 unfoldable pub piece_of : ℕ → List ℕ → Piece
-piece_of i bs = pieceBy (leadOf (slice_index bs 0)) i bs
+piece_of i bs = piece_by (lead_of (slice_index bs 0)) i bs
 
 -- how many brackets are open after the token that begins with this byte; the 65th may not open
-abbrev pub openAfter : ℕ → ℕ → ℕ → Result ℕ Misspelt
-openAfter b depth i = cond (isOpening b) (cond (nat_lt depth 64) (Ok (depth + 1)) (Err (Brackets i))) (Ok (cond (isClosing b) (depth - 1) depth))
+abbrev pub open_after : ℕ → ℕ → ℕ → Result ℕ Misspelt
+open_after b depth i = cond (is_opening b) (cond (nat_lt depth 64) (Ok (depth + 1)) (Err (Brackets i))) (Ok (cond (is_closing b) (depth - 1) depth))
 
 -- the tokens up to the end of the text, or up to the first fault
 pub record Cut : Type 0 where
@@ -73,32 +73,32 @@ abbrev pub put : Token → Cut → Cut
 put t c = record { tokens = t ∷ c.tokens; fault = c.fault }
 
 -- a token before the rest, given what the brackets come to
-abbrev pub putBy : Token → Result ℕ Misspelt → (ℕ → Cut) → Cut
-putBy t (Ok depth) rest = put t (rest depth)
-putBy t (Err m) rest = stop m
+abbrev pub put_by : Token → Result ℕ Misspelt → (ℕ → Cut) → Cut
+put_by t (Ok depth) rest = put t (rest depth)
+put_by t (Err m) rest = stop m
 
 -- a piece at place i, that begins with b, before the rest, given how many bytes of it are to skip and how many brackets are open
-abbrev pub cutBy : Piece → ℕ → ℕ → ℕ → (ℕ → ℕ → Cut) → Cut
-cutBy Blank i b depth rest = rest 0 depth
-cutBy (Part t) i b depth rest = putBy t (openAfter b depth i) (rest (t.size - 1))
-cutBy Bad i b depth rest = stop (Letter i)
+abbrev pub cut_by : Piece → ℕ → ℕ → ℕ → (ℕ → ℕ → Cut) → Cut
+cut_by Blank i b depth rest = rest 0 depth
+cut_by (Part t) i b depth rest = put_by t (open_after b depth i) (rest (t.size - 1))
+cut_by Bad i b depth rest = stop (Letter i)
 
 -- the bytes from place i on: the next `skip` belong to a token that is taken already
-unfoldable pub cutFrom : ℕ → ℕ → ℕ → List ℕ → Cut
-cutFrom skip depth i [] = done
-cutFrom zero depth i (b ∷ bs) = cutBy (piece_of i (b ∷ bs)) i b depth (λ n o. cutFrom n o (suc i) bs)
-cutFrom (suc skip) depth i (b ∷ bs) = cutFrom skip depth (suc i) bs
+unfoldable pub cut_from : ℕ → ℕ → ℕ → List ℕ → Cut
+cut_from skip depth i [] = done
+cut_from zero depth i (b ∷ bs) = cut_by (piece_of i (b ∷ bs)) i b depth (λ n o. cut_from n o (suc i) bs)
+cut_from (suc skip) depth i (b ∷ bs) = cut_from skip depth (suc i) bs
 
 unfoldable pub cut_of : List ℕ → Cut
-cut_of text = cond (nat_le (length text) 16384) (cutFrom 0 0 0 text) (stop Length)
+cut_of text = cond (nat_le (length text) 16384) (cut_from 0 0 0 text) (stop Length)
 
-abbrev pub answerBy : Option Misspelt → ℕ → Result ℕ Misspelt
-answerBy None n = Ok n
-answerBy (Some m) n = Err m
+abbrev pub answer_by : Option Misspelt → ℕ → Result ℕ Misspelt
+answer_by None n = Ok n
+answer_by (Some m) n = Err m
 
 -- how many tokens there are, or the fault
 abbrev pub answer : Cut → Result ℕ Misspelt
-answer c = answerBy c.fault (length c.tokens)
+answer c = answer_by c.fault (length c.tokens)
 
 -- tokens laid over the front of an array, whose rest stays
 abbrev pub laid : List Token → List Token → List Token

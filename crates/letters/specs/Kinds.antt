@@ -69,12 +69,12 @@ abbrev pub keywords : List Kind
 keywords = Rule ∷ Needs ∷ Gives ∷ Let ∷ In ∷ If ∷ Then ∷ Else ∷ Put ∷ As ∷ TheResult ∷ []
 
 -- the first of these kinds that is written so, or a name
-unfoldable pub writtenSo : List ℕ → List Kind → Kind
-writtenSo w [] = Name
-writtenSo w (k ∷ ks) = cond (bytes_eq (word k) w) k (writtenSo w ks)
+unfoldable pub written_so : List ℕ → List Kind → Kind
+written_so w [] = Name
+written_so w (k ∷ ks) = cond (bytes_eq (word k) w) k (written_so w ks)
 
-abbrev pub keywordOf : List ℕ → Kind
-keywordOf w = writtenSo w keywords
+abbrev pub keyword_of : List ℕ → Kind
+keyword_of w = written_so w keywords
 
-unfoldable pub sameKind : Kind → Kind → Bool
-sameKind j k = number j == number k
+unfoldable pub same_kind : Kind → Kind → Bool
+same_kind j k = number j == number k

@@ -4,8 +4,8 @@ use Rattle.std.specs.Str.{bytes_eq}
 use Rattle.letters.specs.declared.kind.Kind.{Kind}
 use Rattle.letters.specs.declared.token.Token.{Token}
 
-abbrev pub tokenOf : Kind → ℕ → ℕ → ℕ → Token
-tokenOf k i n v = record { kind = k; place = i; size = n; value = v }
+abbrev pub token_of : Kind → ℕ → ℕ → ℕ → Token
+token_of k i n v = record { kind = k; place = i; size = n; value = v }
 
 abbrev pub bytes_of : List ℕ → Token → List ℕ
 bytes_of text t = take t.size (drop t.place text)

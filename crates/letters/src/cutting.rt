@@ -1,8 +1,8 @@
 ghost use Rattle.std.specs.Prelude.{◌≡◌, ◌+◌, ◌<◌, ◌≤◌, length, drop, IfOk, ◌==◌, slice_index};
 ghost use Rattle.std.specs.Str.Parse.{digits_value};
 ghost use Rattle.std.specs.List.{prefix_len};
-ghost use Rattle.letters.specs.Bytes.{EachDigit, leadOf, ofRun};
-ghost use Rattle.letters.specs.Cuts.{sign_of, openAfter, word_at, numeralAt, signAt, piece_of, cut_of, answer, laid};
+ghost use Rattle.letters.specs.Bytes.{EachDigit, lead_of, of_run};
+ghost use Rattle.letters.specs.Cuts.{sign_of, open_after, word_at, numeral_at, sign_at, piece_of, cut_of, answer, laid};
 ghost use Rattle.letters.specs.Spelling.{Told, Bracketed};
 
 use crate::kind::Kind;
@@ -46,7 +46,7 @@ enum Piece {
 }
 
 fn lead_of(byte: u8) -> Lead
-    ensures { result ≡ leadOf byte }
+    ensures { result ≡ lead_of byte }
 {
     match byte as char {
         ' ' | '\t' | '\n' | '\r' => Lead::Gap,
@@ -57,7 +57,7 @@ fn lead_of(byte: u8) -> Lead
 }
 
 fn belongs(run: Run, byte: u8) -> bool
-    ensures { result ≡ ofRun run byte }
+    ensures { result ≡ of_run run byte }
 {
     match run {
         Run::Letters => matches!(byte as char, 'a'..='z' | '_'),
@@ -68,7 +68,7 @@ fn belongs(run: Run, byte: u8) -> bool
 // How many bytes of a run stand from a place on.
 fn run_at(text: &[u8], from: usize, run: Run) -> usize
     requires { from ≤ length text.now }
-    ensures told { result ≡ prefix_len (ofRun run) (drop from text.now) }
+    ensures told { result ≡ prefix_len (of_run run) (drop from text.now) }
     ensures within { from + result ≤ length text.now }
 {
     let mut at = from;
@@ -112,7 +112,7 @@ fn word_at(text: &[u8], at: usize) -> Piece
 // The longest numeral at a place.
 fn numeral_at(text: &[u8], at: usize) -> Piece
     requires { at ≤ length text.now }
-    ensures { result ≡ numeralAt at (drop at text.now) }
+    ensures { result ≡ numeral_at at (drop at text.now) }
 {
     let size = run_at(text, at, Run::Digits);
     if size > MOST_DIGITS {
@@ -160,7 +160,7 @@ fn sign_kind(byte: u8, equals: bool) -> Option<Kind>
 // The longest sign at a place.
 fn sign_at(text: &[u8], at: usize) -> Piece
     requires { at < length text.now }
-    ensures { result ≡ signAt at (drop at text.now) }
+    ensures { result ≡ sign_at at (drop at text.now) }
 {
     match sign_kind(text[at], equals_at(text, at + 1)) {
         Some(kind) => Piece::Part(Token {
@@ -188,7 +188,7 @@ fn piece_at(text: &[u8], at: usize) -> Piece
 
 // How many brackets are open after the token that begins with this byte.
 fn open_after(byte: u8, depth: usize, place: usize) -> Result<usize, Misspelt>
-    ensures { result ≡ openAfter byte depth place }
+    ensures { result ≡ open_after byte depth place }
 {
     match byte as char {
         '(' | '[' if depth < MOST_OPEN => Ok(depth + 1),

@@ -1,5 +1,5 @@
 ghost use Rattle.std.specs.Prelude.{◌≡◌};
-ghost use Rattle.letters.specs.Kinds.{number, word, sameKind, keywordOf};
+ghost use Rattle.letters.specs.Kinds.{number, word, same_kind, keyword_of};
 
 // What a token is. A keyword is added at the end of the enum, of `KEYWORDS` and of `word`.
 #[derive(Clone, Copy)]
@@ -93,14 +93,14 @@ impl Kind {
     }
 
     pub fn is(self, other: Kind) -> bool
-        ensures { result ≡ sameKind self other }
+        ensures { result ≡ same_kind self other }
     {
         self.number() == other.number()
     }
 
     // The keyword that is written so, or a name.
     pub fn of_word(letters: &[u8]) -> Kind
-        ensures { result ≡ keywordOf letters.now }
+        ensures { result ≡ keyword_of letters.now }
     {
         for kind in KEYWORDS {
             if kind.word().as_bytes() == letters {

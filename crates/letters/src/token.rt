@@ -1,5 +1,5 @@
 ghost use Rattle.std.specs.Prelude.{◌≡◌};
-ghost use Rattle.letters.specs.Tokens.{tokenOf, bytes_of, same_name};
+ghost use Rattle.letters.specs.Tokens.{token_of, bytes_of, same_name};
 
 use crate::kind::Kind;
 
@@ -15,7 +15,7 @@ pub struct Token {
 impl Token {
     // What stands past the last token of a text.
     pub fn end(place: usize) -> Token
-        ensures { result ≡ tokenOf Kind.End place 0 0 }
+        ensures { result ≡ token_of Kind.End place 0 0 }
     {
         Token {
             kind: Kind::End,

@@ -5,11 +5,11 @@ use Rattle.std.proofs.lemmas.Bool.{cases_lt}
 use Rattle.letters.specs.declared.kind.Kind.{Kind}
 use Rattle.letters.specs.declared.kind.Kind.TheVariants.{Comma, Close, OpenSquare, End}
 use Rattle.letters.specs.declared.token.Token.{Token}
-use Rattle.letters.specs.Kinds.{sameKind}
-use Rattle.letters.specs.Tokens.{tokenOf}
+use Rattle.letters.specs.Kinds.{same_kind}
+use Rattle.letters.specs.Tokens.{token_of}
 use Rattle.grammar.specs.Raw as Raw
-use Rattle.grammar.specs.Parsers.{Look, is_a, lookIn}
-use Rattle.grammar.specs.Sheets.{numberParam, listParam}
+use Rattle.grammar.specs.Parsers.{Look, is_a, look_in}
+use Rattle.grammar.specs.Sheets.{number_param, list_param}
 use Rattle.grammar.specs.Stretches.{Past, past, param_at, params_at}
 use Rattle.naming.specs.Stretching.{Reader, rest, params, left_at}
 use Rattle.naming.proofs.Joins.{rest-none, params-list}
@@ -18,33 +18,33 @@ pub take_min : {X : Type 0} (xs : List X) (n : ℕ) → take (min (length xs) n)
 take_min xs n = elim (cases_lt n (length xs)) [ inl h ↦ ap (λ m. take m xs) (omega arith) | inr h ↦ ap (λ m. take m xs) (omega arith) ∙ take_all (length xs) xs (omega arith) ∙ sym (take_all n xs h) ]
 
 -- a token of another kind than the end's stands among the tokens
-pub stands : (k : Kind) (ts : List Token) (e i : ℕ) → is_a k (tokenOf End e 0 0) ≡ false → is_a k (lookIn ts e i) ≡ true → i < length ts
+pub stands : (k : Kind) (ts : List Token) (e i : ℕ) → is_a k (token_of End e 0 0) ≡ false → is_a k (look_in ts e i) ≡ true → i < length ts
 stands k ts e i f t = elim (cases_lt i (length ts)) [
   | inl h ↦ h
-  | inr h ↦ let g = ap (is_a k) (get_or_past ts i (tokenOf End e 0 0) h) in let z : true ≡ false = sym t ∙ g ∙ f in let o : ◌≡◌ {A = ℕ} 0 1 = cc in absurd (omega arith)
+  | inr h ↦ let g = ap (is_a k) (get_or_past ts i (token_of End e 0 0) h) in let z : true ≡ false = sym t ∙ g ∙ f in let o : ◌≡◌ {A = ℕ} 0 1 = cc in absurd (omega arith)
 ]
 
-past-param : (l : Look) (i e : ℕ) → l i ≡ tokenOf End e 0 0 → l (suc i) ≡ tokenOf End e 0 0 → param_at l i ≡ past (numberParam (tokenOf End e 0 0)) (suc i)
-unfolding sameKind
-past-param l i e a b = ap (λ t. cond (is_a OpenSquare t) (past (listParam (l i) (l (suc (suc i)))) (suc (suc (suc (suc i))))) (past (numberParam (l i)) (suc i))) b ∙ ap (λ t. past (numberParam t) (suc i)) a
+past-param : (l : Look) (i e : ℕ) → l i ≡ token_of End e 0 0 → l (suc i) ≡ token_of End e 0 0 → param_at l i ≡ past (number_param (token_of End e 0 0)) (suc i)
+unfolding same_kind
+past-param l i e a b = ap (λ t. cond (is_a OpenSquare t) (past (list_param (l i) (l (suc (suc i)))) (suc (suc (suc (suc i))))) (past (number_param (l i)) (suc i))) b ∙ ap (λ t. past (number_param t) (suc i)) a
 
-past-params : (ts : List Token) (e n i : ℕ) → length ts ≤ i → params_at n (lookIn ts e) i ≡ numberParam (tokenOf End e 0 0) ∷ []
-unfolding sameKind
+past-params : (ts : List Token) (e n i : ℕ) → length ts ≤ i → params_at n (look_in ts e) i ≡ number_param (token_of End e 0 0) ∷ []
+unfolding same_kind
 past-params ts e n i h =
-    let l : Look = lookIn ts e in
-    let a : l i ≡ tokenOf End e 0 0 = get_or_past ts i (tokenOf End e 0 0) h in
-    let b : l (suc i) ≡ tokenOf End e 0 0 = get_or_past ts (suc i) (tokenOf End e 0 0) (omega arith) in
+    let l : Look = look_in ts e in
+    let a : l i ≡ token_of End e 0 0 = get_or_past ts i (token_of End e 0 0) h in
+    let b : l (suc i) ≡ token_of End e 0 0 = get_or_past ts (suc i) (token_of End e 0 0) (omega arith) in
     params-list l n i
     ∙ ap (λ t. cond (is_a Close t) [] ((param_at l i).value ∷ params l n (param_at l i).next)) a
     ∙ ap (λ (p : Past Raw.Param). p.value ∷ params l n p.next) (past-param l i e a b)
-    ∙ ap (λ ps. numberParam (tokenOf End e 0 0) ∷ ps) (rest-none l (is_a Comma) (λ t j. param_at l j) n (suc i) (ap (is_a Comma) b))
+    ∙ ap (λ ps. number_param (token_of End e 0 0) ∷ ps) (rest-none l (is_a Comma) (λ t j. param_at l j) n (suc i) (ap (is_a Comma) b))
 
-pub begun : (ts : List Token) (e i : ℕ) (here : Bool) → here ≡ is_a Close (lookIn ts e (min i (length ts))) → left_at (lookIn ts e) (min i (length ts)) (length ts) (not here) ≡ params_at (length ts) (lookIn ts e) i
+pub begun : (ts : List Token) (e i : ℕ) (here : Bool) → here ≡ is_a Close (look_in ts e (min i (length ts))) → left_at (look_in ts e) (min i (length ts)) (length ts) (not here) ≡ params_at (length ts) (look_in ts e) i
 unfolding left_at
 begun ts e i here h = flip here ((param_at l j).value ∷ params l (length ts) (param_at l j).next) ∙ ap (λ b. cond b [] ((param_at l j).value ∷ params l (length ts) (param_at l j).next)) h ∙ sym (params-list l (length ts) j) ∙ clamped
   where
     l : Look
-    l = lookIn ts e
+    l = look_in ts e
 
     j : ℕ
     j = min i (length ts)
@@ -94,6 +94,6 @@ unfolding left_at
 length-left l at n true = let h = length_rest l (is_a Comma) (λ t j. param_at l j) n (param_at l at).next in omega arith
 length-left l at n false = omega arith
 
-pub comma-stands : (ts : List Token) (e i : ℕ) → is_a Comma (lookIn ts e i) ≡ true → i < length ts
-unfolding sameKind
+pub comma-stands : (ts : List Token) (e i : ℕ) → is_a Comma (look_in ts e i) ≡ true → i < length ts
+unfolding same_kind
 comma-stands ts e i t = stands Comma ts e i refl t

@@ -4,8 +4,8 @@ use Rattle.std.proofs.lemmas.List.{append-nil, append_assoc, get_or_past}
 use Rattle.letters.specs.declared.token.Token.{Token}
 use Rattle.letters.specs.declared.kind.Kind.TheVariants.{Comma, Close, OpenSquare}
 use Rattle.grammar.specs.Raw as Raw
-use Rattle.grammar.specs.Parsers.{Look, is_a, lookIn}
-use Rattle.grammar.specs.Stretches.{Past, past, joined, param_at, paramAfter, params_at}
+use Rattle.grammar.specs.Parsers.{Look, is_a, look_in}
+use Rattle.grammar.specs.Stretches.{Past, past, joined, param_at, param_after, params_at}
 use Rattle.naming.specs.Stretching.{Reader, rest, end, params}
 
 abbrev pub after : {X : Type 0} → Reader X → List X → Token → ℕ → Past (List X)

@@ -4,22 +4,22 @@ use Rattle.letters.specs.declared.token.Token.{Token}
 use Rattle.letters.specs.Tokens.{same_name}
 use Rattle.naming.specs.Faults.{found}
 use Rattle.naming.specs.Least.{least}
-use Rattle.naming.specs.Scopes.{next, slotIn}
+use Rattle.naming.specs.Scopes.{next, slot_in}
 
 pub is-next : (o : Option ℕ) → is_some (next o) ≡ is_some o
 is-next None = refl
 is-next (Some i) = refl
 
-pub slot-here : (text : List ℕ) (n : Token) (ns : List Token) (t : Token) → same_name text n t ≡ true → is_some (slotIn text (n ∷ ns) t) ≡ true
-unfolding slotIn
-slot-here text n ns t e = ap (λ b. is_some (cond b (Some 0) (next (slotIn text ns t)))) e
+pub slot-here : (text : List ℕ) (n : Token) (ns : List Token) (t : Token) → same_name text n t ≡ true → is_some (slot_in text (n ∷ ns) t) ≡ true
+unfolding slot_in
+slot-here text n ns t e = ap (λ b. is_some (cond b (Some 0) (next (slot_in text ns t)))) e
 
-pub slot-on : (text : List ℕ) (n : Token) (ns : List Token) (t : Token) → same_name text n t ≡ false → is_some (slotIn text (n ∷ ns) t) ≡ is_some (slotIn text ns t)
-unfolding slotIn
-slot-on text n ns t e = ap (λ b. is_some (cond b (Some 0) (next (slotIn text ns t)))) e ∙ is-next (slotIn text ns t)
+pub slot-on : (text : List ℕ) (n : Token) (ns : List Token) (t : Token) → same_name text n t ≡ false → is_some (slot_in text (n ∷ ns) t) ≡ is_some (slot_in text ns t)
+unfolding slot_in
+slot-on text n ns t e = ap (λ b. is_some (cond b (Some 0) (next (slot_in text ns t)))) e ∙ is-next (slot_in text ns t)
 
-pub slot-none : (text : List ℕ) (t : Token) → is_some (slotIn text [] t) ≡ false
-unfolding slotIn
+pub slot-none : (text : List ℕ) (t : Token) → is_some (slot_in text [] t) ≡ false
+unfolding slot_in
 slot-none text t = refl
 
 pub found-yes : (o : Option ℕ) (t : Token) → is_some o ≡ true → None ≡ least (found o t)

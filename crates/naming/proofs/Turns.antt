@@ -5,15 +5,15 @@ use Rattle.std.proofs.lemmas.Bool.{cases_lt}
 use Rattle.letters.specs.declared.kind.Kind.{Kind}
 use Rattle.letters.specs.declared.kind.Kind.TheVariants.{Comma, Minus, End, Name, Numeral}
 use Rattle.letters.specs.declared.token.Token.{Token}
-use Rattle.letters.specs.Kinds.{sameKind}
-use Rattle.letters.specs.Tokens.{tokenOf}
+use Rattle.letters.specs.Kinds.{same_kind}
+use Rattle.letters.specs.Tokens.{token_of}
 use Rattle.grammar.specs.Raw as Raw
-use Rattle.grammar.specs.Parsers.{Look, is_a, lookIn}
-use Rattle.grammar.specs.Sheets.{sumSign, plainItem}
-use Rattle.grammar.specs.Stretches.{Past, past, item_at, sideAt, conditionAt, conditionsAt, optionalAt}
-use Rattle.naming.specs.Faults.{atomFaults, sideFaults, conditionFaults}
+use Rattle.grammar.specs.Parsers.{Look, is_a, look_in}
+use Rattle.grammar.specs.Sheets.{sum_sign, plain_item}
+use Rattle.grammar.specs.Stretches.{Past, past, item_at, side_at, condition_at, conditions_at, optional_at}
+use Rattle.naming.specs.Faults.{atom_faults, side_faults, condition_faults}
 use Rattle.naming.specs.Least.{merged, least}
-use Rattle.naming.specs.Stretching.{Reader, rest, end, items, itemsEnd, conditions}
+use Rattle.naming.specs.Stretching.{Reader, rest, end, items, items_end, conditions}
 use Rattle.naming.proofs.Joins.{joined-value, joined-next, rest-none}
 use Rattle.naming.proofs.Smallest.{merged-none, merged-assoc, least-append}
 
@@ -47,12 +47,12 @@ pub record Each {X : Type 0} (F : List X → List ℕ) (G : X → List ℕ) : Ty
   pub none : F [] ≡ []
   pub more : (x : X) (xs : List X) → F (x ∷ xs) ≡ G x ++ F xs
 
-pub each-side : (text : List ℕ) (ns : List Token) → Each (sideFaults text ns) (λ i. atomFaults text ns i.atom)
-unfolding sideFaults
+pub each-side : (text : List ℕ) (ns : List Token) → Each (side_faults text ns) (λ i. atom_faults text ns i.atom)
+unfolding side_faults
 each-side text ns = record { none = refl; more = λ x xs. refl }
 
-pub each-condition : (text : List ℕ) (ns : List Token) → Each (conditionFaults text ns) (λ c. sideFaults text ns c.left ++ sideFaults text ns c.right)
-unfolding conditionFaults
+pub each-condition : (text : List ℕ) (ns : List Token) → Each (condition_faults text ns) (λ c. side_faults text ns c.left ++ side_faults text ns c.right)
+unfolding condition_faults
 each-condition text ns = record { none = refl; more = λ x xs. refl }
 
 pub starts : {X : Type 0} (F : List X → List ℕ) (G : X → List ℕ) → Each F G → (x : X) (xs : List X) (f : Option ℕ) → f ≡ least (G x) → least (F (x ∷ xs)) ≡ merged f (least (F xs))
@@ -69,61 +69,61 @@ pub ends : {X : Type 0} (F : List X → List ℕ) (G : X → List ℕ) → Each 
 unfolding least
 ends F G e xs w f inv k = sym (inv ∙ ap (λ ys. merged f (least (F ys))) k ∙ ap (λ ys. merged f (least ys)) e.none ∙ merged-none f)
 
-pub side-list : (l : Look) (n i : ℕ) → (sideAt n l i).value ≡ (item_at l false i).value ∷ items l n (item_at l false i).next
-side-list l n i = joined-value l sumSign (λ t j. item_at l (is_a Minus t) j) n ((item_at l false i).value ∷ []) (item_at l false i).next
+pub side-list : (l : Look) (n i : ℕ) → (side_at n l i).value ≡ (item_at l false i).value ∷ items l n (item_at l false i).next
+side-list l n i = joined-value l sum_sign (λ t j. item_at l (is_a Minus t) j) n ((item_at l false i).value ∷ []) (item_at l false i).next
 
-pub side-end : (l : Look) (n i : ℕ) → (sideAt n l i).next ≡ itemsEnd l n (item_at l false i).next
-side-end l n i = joined-next l sumSign (λ t j. item_at l (is_a Minus t) j) n ((item_at l false i).value ∷ []) (item_at l false i).next
+pub side-end : (l : Look) (n i : ℕ) → (side_at n l i).next ≡ items_end l n (item_at l false i).next
+side-end l n i = joined-next l sum_sign (λ t j. item_at l (is_a Minus t) j) n ((item_at l false i).value ∷ []) (item_at l false i).next
 
-pub conditions-list : (l : Look) (n i : ℕ) → (conditionsAt n l i).value ≡ (conditionAt n l i).value ∷ conditions n l n (conditionAt n l i).next
-conditions-list l n i = joined-value l (is_a Comma) (λ t j. conditionAt n l j) n ((conditionAt n l i).value ∷ []) (conditionAt n l i).next
+pub conditions-list : (l : Look) (n i : ℕ) → (conditions_at n l i).value ≡ (condition_at n l i).value ∷ conditions n l n (condition_at n l i).next
+conditions-list l n i = joined-value l (is_a Comma) (λ t j. condition_at n l j) n ((condition_at n l i).value ∷ []) (condition_at n l i).next
 
 -- past the last token there is no name
-past-item : (ts : List Token) (e i : ℕ) → length ts ≤ i → item_at (lookIn ts e) false i ≡ past (plainItem false (tokenOf End e 0 0)) (i + 1)
-unfolding sameKind
+past-item : (ts : List Token) (e i : ℕ) → length ts ≤ i → item_at (look_in ts e) false i ≡ past (plain_item false (token_of End e 0 0)) (i + 1)
+unfolding same_kind
 past-item ts e i h =
-    let l : Look = lookIn ts e in
-    let a : l i ≡ tokenOf End e 0 0 = get_or_past ts i (tokenOf End e 0 0) h in
+    let l : Look = look_in ts e in
+    let a : l i ≡ token_of End e 0 0 = get_or_past ts i (token_of End e 0 0) h in
     let s : suc i ≡ i + 1 = omega arith in
-    rw a (ap (past (plainItem false (tokenOf End e 0 0))) s)
+    rw a (ap (past (plain_item false (token_of End e 0 0))) s)
 
-pub past-side : (ts : List Token) (e n i : ℕ) → length ts ≤ i → ((sideAt n (lookIn ts e) i).value ≡ plainItem false (tokenOf End e 0 0) ∷ []) × ((sideAt n (lookIn ts e) i).next ≡ i + 1)
-unfolding sameKind
+pub past-side : (ts : List Token) (e n i : ℕ) → length ts ≤ i → ((side_at n (look_in ts e) i).value ≡ plain_item false (token_of End e 0 0) ∷ []) × ((side_at n (look_in ts e) i).next ≡ i + 1)
+unfolding same_kind
 past-side ts e n i h =
-    let l : Look = lookIn ts e in
+    let l : Look = look_in ts e in
     let p = past-item ts e i h in
-    let a : sumSign (l (i + 1)) ≡ false = ap sumSign (get_or_past ts (i + 1) (tokenOf End e 0 0) (omega arith)) in (
-      side-list l n i ∙ ap (λ (q : Past Raw.Item). q.value ∷ items l n q.next) p ∙ ap (λ xs. plainItem false (tokenOf End e 0 0) ∷ xs) (rest-none l sumSign (λ t j. item_at l (is_a Minus t) j) n (i + 1) a),
-      side-end l n i ∙ ap (λ (q : Past Raw.Item). itemsEnd l n q.next) p ∙ end_none l sumSign (λ t j. item_at l (is_a Minus t) j) n (i + 1) a,
+    let a : sum_sign (l (i + 1)) ≡ false = ap sum_sign (get_or_past ts (i + 1) (token_of End e 0 0) (omega arith)) in (
+      side-list l n i ∙ ap (λ (q : Past Raw.Item). q.value ∷ items l n q.next) p ∙ ap (λ xs. plain_item false (token_of End e 0 0) ∷ xs) (rest-none l sum_sign (λ t j. item_at l (is_a Minus t) j) n (i + 1) a),
+      side-end l n i ∙ ap (λ (q : Past Raw.Item). items_end l n q.next) p ∙ end_none l sum_sign (λ t j. item_at l (is_a Minus t) j) n (i + 1) a,
     )
 
-past-faults : (text : List ℕ) (ns : List Token) (ts : List Token) (e n i : ℕ) → length ts ≤ i → sideFaults text ns (sideAt n (lookIn ts e) i).value ≡ []
-unfolding sideFaults sameKind
-past-faults text ns ts e n i h = ap (sideFaults text ns) (past-side ts e n i h).0
+past-faults : (text : List ℕ) (ns : List Token) (ts : List Token) (e n i : ℕ) → length ts ≤ i → side_faults text ns (side_at n (look_in ts e) i).value ≡ []
+unfolding side_faults same_kind
+past-faults text ns ts e n i h = ap (side_faults text ns) (past-side ts e n i h).0
 
-pub past-conditions : (text : List ℕ) (ns : List Token) (ts : List Token) (e n i : ℕ) → length ts ≤ i → conditionFaults text ns (conditionsAt n (lookIn ts e) i).value ≡ []
-unfolding conditionFaults sameKind
+pub past-conditions : (text : List ℕ) (ns : List Token) (ts : List Token) (e n i : ℕ) → length ts ≤ i → condition_faults text ns (conditions_at n (look_in ts e) i).value ≡ []
+unfolding condition_faults same_kind
 past-conditions text ns ts e n i h =
-    let l : Look = lookIn ts e in
-    let j : ℕ = (sideAt n l i).next in
-    let k : ℕ = (sideAt n l (suc j)).next in
+    let l : Look = look_in ts e in
+    let j : ℕ = (side_at n l i).next in
+    let k : ℕ = (side_at n l (suc j)).next in
     let a : j ≡ i + 1 = (past-side ts e n i h).1 in
     let b : k ≡ suc j + 1 = (past-side ts e n (suc j) (omega arith)).1 in
-    let d : is_a Comma (l k) ≡ false = ap (is_a Comma) (get_or_past ts k (tokenOf End e 0 0) (omega arith)) in
-    ap (conditionFaults text ns) (conditions-list l n i ∙ ap (λ cs. (conditionAt n l i).value ∷ cs) (rest-none l (is_a Comma) (λ t m. conditionAt n l m) n k d))
-    ∙ ap (λ xs. (xs ++ sideFaults text ns (sideAt n l (suc j)).value) ++ []) (past-faults text ns ts e n i h)
+    let d : is_a Comma (l k) ≡ false = ap (is_a Comma) (get_or_past ts k (token_of End e 0 0) (omega arith)) in
+    ap (condition_faults text ns) (conditions-list l n i ∙ ap (λ cs. (condition_at n l i).value ∷ cs) (rest-none l (is_a Comma) (λ t m. condition_at n l m) n k d))
+    ∙ ap (λ xs. (xs ++ side_faults text ns (side_at n l (suc j)).value) ++ []) (past-faults text ns ts e n i h)
     ∙ ap (λ xs. xs ++ []) (past-faults text ns ts e n (suc j) (omega arith))
 
-pub sign-stands : (ts : List Token) (e i : ℕ) → sumSign (lookIn ts e i) ≡ true → i < length ts
-unfolding sameKind
+pub sign-stands : (ts : List Token) (e i : ℕ) → sum_sign (look_in ts e i) ≡ true → i < length ts
+unfolding same_kind
 sign-stands ts e i t = elim (cases_lt i (length ts)) [
   | inl h ↦ h
-  | inr h ↦ let z : true ≡ false = sym t ∙ ap sumSign (get_or_past ts i (tokenOf End e 0 0) h) in let o : ◌≡◌ {A = ℕ} 0 1 = cc in absurd (omega arith)
+  | inr h ↦ let z : true ≡ false = sym t ∙ ap sum_sign (get_or_past ts i (token_of End e 0 0) h) in let o : ◌≡◌ {A = ℕ} 0 1 = cc in absurd (omega arith)
 ]
 
-pub optional-yes : (text : List ℕ) (ns : List Token) (n : ℕ) (l : Look) (k : Kind) (i : ℕ) → is_a k (l i) ≡ true → least (conditionFaults text ns (conditionsAt n l (i + 1)).value) ≡ least (conditionFaults text ns (optionalAt n l k i))
-optional-yes text ns n l k i e = sym (ap (λ b. least (conditionFaults text ns (cond b (conditionsAt n l (suc i)).value []))) e ∙ ap (λ j. least (conditionFaults text ns (conditionsAt n l j).value)) (omega arith))
+pub optional-yes : (text : List ℕ) (ns : List Token) (n : ℕ) (l : Look) (k : Kind) (i : ℕ) → is_a k (l i) ≡ true → least (condition_faults text ns (conditions_at n l (i + 1)).value) ≡ least (condition_faults text ns (optional_at n l k i))
+optional-yes text ns n l k i e = sym (ap (λ b. least (condition_faults text ns (cond b (conditions_at n l (suc i)).value []))) e ∙ ap (λ j. least (condition_faults text ns (conditions_at n l j).value)) (omega arith))
 
-pub optional-no : (text : List ℕ) (ns : List Token) (n : ℕ) (l : Look) (k : Kind) (i : ℕ) → is_a k (l i) ≡ false → None ≡ least (conditionFaults text ns (optionalAt n l k i))
-unfolding least conditionFaults
-optional-no text ns n l k i e = sym (ap (λ b. least (conditionFaults text ns (cond b (conditionsAt n l (suc i)).value []))) e)
+pub optional-no : (text : List ℕ) (ns : List Token) (n : ℕ) (l : Look) (k : Kind) (i : ℕ) → is_a k (l i) ≡ false → None ≡ least (condition_faults text ns (optional_at n l k i))
+unfolding least condition_faults
+optional-no text ns n l k i e = sym (ap (λ b. least (condition_faults text ns (cond b (conditions_at n l (suc i)).value []))) e)

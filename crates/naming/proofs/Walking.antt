@@ -6,17 +6,17 @@ use Rattle.letters.specs.declared.token.Token.{Token}
 use Rattle.grammar.specs.declared.node.Node.{Node}
 use Rattle.grammar.specs.Raw as Raw
 use Rattle.grammar.specs.Raw.{none, more}
-use Rattle.grammar.specs.Trees.{Part, look_of, grown, partIn, rawAt, argsAt}
+use Rattle.grammar.specs.Trees.{Part, look_of, grown, part_in, raw_at, args_at}
 use Rattle.pile.specs.declared.Pile.{Pile}
 use Rattle.pile.specs.Entries.{entries, room}
 use Rattle.naming.specs.declared.written.Written.{Written}
-use Rattle.naming.specs.Calls.{argFault}
-use Rattle.naming.specs.Faults.{exprFaults, argsFaults, argFaults, length_at, place_of, bareList, countArgs}
+use Rattle.naming.specs.Calls.{arg_fault}
+use Rattle.naming.specs.Faults.{expr_faults, args_faults, arg_faults, length_at, place_of, bare_list, count_args}
 use Rattle.naming.specs.Least.{merged, least}
-use Rattle.naming.specs.Reaches.{Went, tokensOf, scope_of, sheetOf}
+use Rattle.naming.specs.Reaches.{Went, tokens_of, scope_of, sheet_of}
 use Rattle.naming.specs.Scopes.{Scope, naming}
-use Rattle.naming.specs.Sources.{source_of, nodeIn}
-use Rattle.naming.specs.Walks.{headParams, exprAt, argumentsAt}
+use Rattle.naming.specs.Sources.{source_of, node_in}
+use Rattle.naming.specs.Walks.{head_params, expr_at, arguments_at}
 use Rattle.naming.proofs.Called.{arg-least, nth_drop}
 use Rattle.grammar.proofs.Parts.{step}
 use Rattle.naming.proofs.Scoping.{name-pushed}
@@ -38,29 +38,29 @@ both F G {p = p} m v w = record {
 }
 
 -- from the faults of what is grown there
-pub expr-at : (w : Written) (lists : List ℕ) (top at : ℕ) (o : Option Node) {r : Option ℕ} {p q : Pile ℕ} → o ≡ nodeIn top w.nodes.now at → Went r (λ ns. exprFaults (sheetOf w) (scope_of w ns lists) (grown (source_of w) (partIn (source_of w) at w.nodes.now) o).expr) p q → Went r (exprAt w lists top at) p q
+pub expr-at : (w : Written) (lists : List ℕ) (top at : ℕ) (o : Option Node) {r : Option ℕ} {p q : Pile ℕ} → o ≡ node_in top w.nodes.now at → Went r (λ ns. expr_faults (sheet_of w) (scope_of w ns lists) (grown (source_of w) (part_in (source_of w) at w.nodes.now) o).expr) p q → Went r (expr_at w lists top at) p q
 expr-at w lists top at o {r} {p} {q} e v =
-    same-faults (exprAt w lists top at) _ r p q (λ ns. ap (λ (x : Part). exprFaults (sheetOf w) (scope_of w ns lists) x.expr) (step (source_of w) top w.nodes.now at ∙ ap (grown (source_of w) (partIn (source_of w) at w.nodes.now)) (sym e))) v
+    same-faults (expr_at w lists top at) _ r p q (λ ns. ap (λ (x : Part). expr_faults (sheet_of w) (scope_of w ns lists) x.expr) (step (source_of w) top w.nodes.now at ∙ ap (grown (source_of w) (part_in (source_of w) at w.nodes.now)) (sym e))) v
 
 -- under one more name
-pub under : (w : Written) (lists : List ℕ) (n at b mark : ℕ) {r : Option ℕ} {p p1 p2 q : Pile ℕ} → mark ≡ length (entries p) → entries p1 ≡ entries p ++ n ∷ [] → room p1 ≡ room p → Went r (exprAt w lists at b) p1 p2 → entries q ≡ take mark (entries p2) → room q ≡ room p2
-    → Went r (λ ns. exprFaults (sheetOf w) (naming (scope_of w ns lists) (look_of (source_of w) n)) (rawAt (source_of w) at w.nodes.now b)) p q
+pub under : (w : Written) (lists : List ℕ) (n at b mark : ℕ) {r : Option ℕ} {p p1 p2 q : Pile ℕ} → mark ≡ length (entries p) → entries p1 ≡ entries p ++ n ∷ [] → room p1 ≡ room p → Went r (expr_at w lists at b) p1 p2 → entries q ≡ take mark (entries p2) → room q ≡ room p2
+    → Went r (λ ns. expr_faults (sheet_of w) (naming (scope_of w ns lists) (look_of (source_of w) n)) (raw_at (source_of w) at w.nodes.now b)) p q
 under w lists n at b mark {p = p} {p1 = p1} {p2 = p2} m e k v f g = record {
-  told = v.told ∙ ap (λ (Γ : Scope). least (exprFaults (sheetOf w) Γ (rawAt (source_of w) at w.nodes.now b))) (name-pushed w (entries p) (entries p1) lists n e);
+  told = v.told ∙ ap (λ (Γ : Scope). least (expr_faults (sheet_of w) Γ (raw_at (source_of w) at w.nodes.now b))) (name-pushed w (entries p) (entries p1) lists n e);
   kept = f ∙ ap (take mark) (v.kept ∙ e) ∙ take_at (entries p) (n ∷ []) mark (sym m);
   roomy = g ∙ v.roomy ∙ k;
 }
 
 -- an argument, given what is inside it
-pub arg-went : (wants : Option Token) (bare : Option ℕ) (place : ℕ) (G : List ℕ → List ℕ) {inside r : Option ℕ} {p q : Pile ℕ} → r ≡ argFault (is_some wants) (is_some bare) place inside → Went inside G p q → Went r (λ ns. argFaults wants bare place (G ns)) p q
+pub arg-went : (wants : Option Token) (bare : Option ℕ) (place : ℕ) (G : List ℕ → List ℕ) {inside r : Option ℕ} {p q : Pile ℕ} → r ≡ arg_fault (is_some wants) (is_some bare) place inside → Went inside G p q → Went r (λ ns. arg_faults wants bare place (G ns)) p q
 arg-went wants bare place G {p = p} e v = record {
-  told = e ∙ ap (argFault (is_some wants) (is_some bare) place) v.told ∙ arg-least wants bare place (G (entries p));
+  told = e ∙ ap (arg_fault (is_some wants) (is_some bare) place) v.told ∙ arg-least wants bare place (G (entries p));
   kept = v.kept;
   roomy = v.roomy;
 }
 
-pub args_at : (w : Written) (lists : List ℕ) (ps top at : ℕ) (es : Raw.Args) {r : Option ℕ} {p q : Pile ℕ} → argsAt (source_of w) top w.nodes.now at ≡ es → Went r (λ ns. argsFaults (sheetOf w) (scope_of w ns lists) (headParams w ps) es) p q → Went r (argumentsAt w lists ps top at) p q
-args_at w lists ps top at es {r} {p} {q} e v = same-faults (argumentsAt w lists ps top at) _ r p q (λ ns. ap (argsFaults (sheetOf w) (scope_of w ns lists) (headParams w ps)) e) v
+pub args_at-law : (w : Written) (lists : List ℕ) (ps top at : ℕ) (es : Raw.Args) {r : Option ℕ} {p q : Pile ℕ} → args_at (source_of w) top w.nodes.now at ≡ es → Went r (λ ns. args_faults (sheet_of w) (scope_of w ns lists) (head_params w ps) es) p q → Went r (arguments_at w lists ps top at) p q
+args_at-law w lists ps top at es {r} {p} {q} e v = same-faults (arguments_at w lists ps top at) _ r p q (λ ns. ap (args_faults (sheet_of w) (scope_of w ns lists) (head_params w ps)) e) v
 
 pub length_from : (qs ps : List Raw.Param) (k : ℕ) → qs ≡ drop k ps → length_at qs 0 ≡ length_at ps k
 length_from qs ps k e = ap (λ (o : Option Raw.Param). elim o [ None ↦ None | Some p ↦ p.length ]) (ap (λ xs. slice_get xs 0) e ∙ nth_drop ps k)

@@ -68,46 +68,46 @@ inner_of (Some (Arg xs a)) = None
 inner_of (Some (Rule t m ps n g b)) = None
 
 -- the place of a node's own token
-abbrev pub ownPlace : Look → Option Node → ℕ
-ownPlace l None = 0
-ownPlace l (Some Blank) = 0
-ownPlace l (Some (Num t)) = (l t).place
-ownPlace l (Some (Name t)) = (l t).place
-ownPlace l (Some (Calc t a b)) = (l t).place
-ownPlace l (Some (Read t a)) = (l t).place
-ownPlace l (Some (Call t xs)) = (l t).place
-ownPlace l (Some (Bind t n a b)) = (l t).place
-ownPlace l (Some (Test t c a b d e)) = (l t).place
-ownPlace l (Some (Put t n a b c)) = (l t).place
-ownPlace l (Some (Claim t c a)) = (l t).place
-ownPlace l (Some (Nest t a)) = (l t).place
-ownPlace l (Some NoArgs) = 0
-ownPlace l (Some (Arg xs a)) = 0
-ownPlace l (Some (Rule t m ps n g b)) = 0
+abbrev pub own_place : Look → Option Node → ℕ
+own_place l None = 0
+own_place l (Some Blank) = 0
+own_place l (Some (Num t)) = (l t).place
+own_place l (Some (Name t)) = (l t).place
+own_place l (Some (Calc t a b)) = (l t).place
+own_place l (Some (Read t a)) = (l t).place
+own_place l (Some (Call t xs)) = (l t).place
+own_place l (Some (Bind t n a b)) = (l t).place
+own_place l (Some (Test t c a b d e)) = (l t).place
+own_place l (Some (Put t n a b c)) = (l t).place
+own_place l (Some (Claim t c a)) = (l t).place
+own_place l (Some (Nest t a)) = (l t).place
+own_place l (Some NoArgs) = 0
+own_place l (Some (Arg xs a)) = 0
+own_place l (Some (Rule t m ps n g b)) = 0
 
 -- the parts of a rule
-abbrev pub ruledOf : Option Node → Option Ruled
-ruledOf None = None
-ruledOf (Some Blank) = None
-ruledOf (Some (Num t)) = None
-ruledOf (Some (Name t)) = None
-ruledOf (Some (Calc t a b)) = None
-ruledOf (Some (Read t a)) = None
-ruledOf (Some (Call t a)) = None
-ruledOf (Some (Bind t n a b)) = None
-ruledOf (Some (Test t c a b d e)) = None
-ruledOf (Some (Put t n a b d)) = None
-ruledOf (Some (Claim t c a)) = None
-ruledOf (Some (Nest t a)) = None
-ruledOf (Some NoArgs) = None
-ruledOf (Some (Arg a b)) = None
-ruledOf (Some (Rule t m ps n g b)) = Some (record { keyword = t; name = m; params = ps; needs = n; gives = g; body = b })
+abbrev pub ruled_of : Option Node → Option Ruled
+ruled_of None = None
+ruled_of (Some Blank) = None
+ruled_of (Some (Num t)) = None
+ruled_of (Some (Name t)) = None
+ruled_of (Some (Calc t a b)) = None
+ruled_of (Some (Read t a)) = None
+ruled_of (Some (Call t a)) = None
+ruled_of (Some (Bind t n a b)) = None
+ruled_of (Some (Test t c a b d e)) = None
+ruled_of (Some (Put t n a b d)) = None
+ruled_of (Some (Claim t c a)) = None
+ruled_of (Some (Nest t a)) = None
+ruled_of (Some NoArgs) = None
+ruled_of (Some (Arg a b)) = None
+ruled_of (Some (Rule t m ps n g b)) = Some (record { keyword = t; name = m; params = ps; needs = n; gives = g; body = b })
 
 -- an argument's fault, where a list is wanted or not, and it is the bare name of one or not
-abbrev pub argFault : Bool → Bool → ℕ → Option ℕ → Option ℕ
-argFault false bare place inside = inside
-argFault true true place inside = None
-argFault true false place inside = merged (Some place) inside
+abbrev pub arg_fault : Bool → Bool → ℕ → Option ℕ → Option ℕ
+arg_fault false bare place inside = inside
+arg_fault true true place inside = None
+arg_fault true false place inside = merged (Some place) inside
 
 -- the parameters of the first rule that is named so
 unfoldable pub named : List ℕ → List Raw.Rule → Token → Option (List Raw.Param)
@@ -115,9 +115,9 @@ named text [] t = None
 named text (r ∷ rs) t = cond (same_name text r.name t) (Some r.params) (named text rs t)
 
 -- the parameters that begin at a position
-abbrev pub headAt : Written → Option ℕ → Option (List Raw.Param)
-headAt w None = None
-headAt w (Some ps) = Some (params_at (length w.tokens.now) (look_of (source_of w)) ps)
+abbrev pub head_at : Written → Option ℕ → Option (List Raw.Param)
+head_at w None = None
+head_at w (Some ps) = Some (params_at (length w.tokens.now) (look_of (source_of w)) ps)
 
 -- the faults of a call, by where the parameters begin of a rule that takes so many
 abbrev pub called : Written → Option ℕ → Token → (List Raw.Param → List ℕ) → List ℕ

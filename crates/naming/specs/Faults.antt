@@ -3,11 +3,11 @@ use Rattle.std.specs.Prelude.{ℕ, ◌+◌, Bool, true, false, cond, List, [], �
 use Rattle.std.specs.List.{slice_get}
 use Rattle.letters.specs.declared.kind.Kind.TheVariants.{Name}
 use Rattle.letters.specs.declared.token.Token.{Token}
-use Rattle.letters.specs.Kinds.{sameKind}
+use Rattle.letters.specs.Kinds.{same_kind}
 use Rattle.grammar.specs.Raw as Raw
 use Rattle.grammar.specs.Raw.{num, name, calc, read, call, bind, test, put, claim, nest, none, more}
 use Rattle.naming.specs.Least.{least}
-use Rattle.naming.specs.Scopes.{Scope, Sheet, slotIn, ruleIn, known, naming, listing, empty, paramScope, headScope}
+use Rattle.naming.specs.Scopes.{Scope, Sheet, slot_in, rule_in, known, naming, listing, empty, param_scope, head_scope}
 
 -- where a name must be found
 abbrev pub found : Option ℕ → Token → List ℕ
@@ -19,16 +19,16 @@ abbrev pub fresh : List ℕ → Scope → Token → List ℕ
 fresh text Γ t = cond (known text Γ t) (t.place ∷ []) []
 
 -- a side's names are names of numbers
-abbrev pub atomFaults : List ℕ → List Token → Token → List ℕ
-atomFaults text names t = cond (sameKind t.kind Name) (found (slotIn text names t) t) []
+abbrev pub atom_faults : List ℕ → List Token → Token → List ℕ
+atom_faults text names t = cond (same_kind t.kind Name) (found (slot_in text names t) t) []
 
-unfoldable pub sideFaults : List ℕ → List Token → Raw.Side → List ℕ
-sideFaults text names [] = []
-sideFaults text names (i ∷ is) = atomFaults text names i.atom ++ sideFaults text names is
+unfoldable pub side_faults : List ℕ → List Token → Raw.Side → List ℕ
+side_faults text names [] = []
+side_faults text names (i ∷ is) = atom_faults text names i.atom ++ side_faults text names is
 
-unfoldable pub conditionFaults : List ℕ → List Token → List Raw.Condition → List ℕ
-conditionFaults text names [] = []
-conditionFaults text names (c ∷ cs) = (sideFaults text names c.left ++ sideFaults text names c.right) ++ conditionFaults text names cs
+unfoldable pub condition_faults : List ℕ → List Token → List Raw.Condition → List ℕ
+condition_faults text names [] = []
+condition_faults text names (c ∷ cs) = (side_faults text names c.left ++ side_faults text names c.right) ++ condition_faults text names cs
 
 -- an expression's place; brackets alone have that of what is in them
 unfoldable pub place_of : Raw.Expr → ℕ
@@ -44,27 +44,27 @@ place_of (claim t e cs) = t.place
 place_of (nest t e) = place_of e
 
 -- the bare name of one of these lists
-abbrev pub bareList : List ℕ → List Token → Raw.Expr → Option ℕ
-bareList text lists (num t) = None
-bareList text lists (name t) = slotIn text lists t
-bareList text lists (calc t a b) = None
-bareList text lists (read t e) = None
-bareList text lists (call t es) = None
-bareList text lists (bind t n a b) = None
-bareList text lists (test t c a b d e) = None
-bareList text lists (put t l a b e) = None
-bareList text lists (claim t e cs) = None
-bareList text lists (nest t e) = None
+abbrev pub bare_list : List ℕ → List Token → Raw.Expr → Option ℕ
+bare_list text lists (num t) = None
+bare_list text lists (name t) = slot_in text lists t
+bare_list text lists (calc t a b) = None
+bare_list text lists (read t e) = None
+bare_list text lists (call t es) = None
+bare_list text lists (bind t n a b) = None
+bare_list text lists (test t c a b d e) = None
+bare_list text lists (put t l a b e) = None
+bare_list text lists (claim t e cs) = None
+bare_list text lists (nest t e) = None
 
-unfoldable pub countArgs : Raw.Args → ℕ
-countArgs none = 0
-countArgs (more es e) = countArgs es + 1
+unfoldable pub count_args : Raw.Args → ℕ
+count_args none = 0
+count_args (more es e) = count_args es + 1
 
 -- an argument for a number is an expression; one for a list is the bare name of a list
-abbrev pub argFaults : Option Token → Option ℕ → ℕ → List ℕ → List ℕ
-argFaults None bare place inside = inside
-argFaults (Some n) (Some slot) place inside = []
-argFaults (Some n) None place inside = place ∷ inside
+abbrev pub arg_faults : Option Token → Option ℕ → ℕ → List ℕ → List ℕ
+arg_faults None bare place inside = inside
+arg_faults (Some n) (Some slot) place inside = []
+arg_faults (Some n) None place inside = place ∷ inside
 
 -- the parameters of a rule; none where there is no such rule
 abbrev pub params_of : Sheet → Option ℕ → Option (List Raw.Param)
@@ -76,50 +76,50 @@ abbrev pub length_at : List Raw.Param → ℕ → Option Token
 length_at ps k = elim (slice_get ps k) [ None ↦ None | Some p ↦ p.length ]
 
 -- the call's own fault, or those of its arguments
-abbrev pub callFaults : Option (List Raw.Param) → Token → ℕ → (List Raw.Param → List ℕ) → List ℕ
-callFaults None t n inside = t.place ∷ []
-callFaults (Some ps) t n inside = cond (length ps == n) (inside ps) (t.place ∷ [])
+abbrev pub call_faults : Option (List Raw.Param) → Token → ℕ → (List Raw.Param → List ℕ) → List ℕ
+call_faults None t n inside = t.place ∷ []
+call_faults (Some ps) t n inside = cond (length ps == n) (inside ps) (t.place ∷ [])
 
 unfoldable mutual
-  pub exprFaults : Sheet → Scope → Raw.Expr → List ℕ
-  exprFaults S Γ (num t) = []
-  exprFaults S Γ (name t) = found (slotIn S.text Γ.names t) t
-  exprFaults S Γ (calc t a b) = exprFaults S Γ a ++ exprFaults S Γ b
-  exprFaults S Γ (read t e) = found (slotIn S.text Γ.lists t) t ++ exprFaults S Γ e
-  exprFaults S Γ (call t es) = callFaults (params_of S (ruleIn S.text S.rules t)) t (countArgs es) (λ ps. argsFaults S Γ ps es)
-  exprFaults S Γ (bind t n a b) = (fresh S.text Γ n ++ exprFaults S Γ a) ++ exprFaults S (naming Γ n) b
-  exprFaults S Γ (test t c a b d e) = (exprFaults S Γ a ++ exprFaults S Γ b) ++ (exprFaults S Γ d ++ exprFaults S Γ e)
-  exprFaults S Γ (put t l a b e) = (found (slotIn S.text Γ.lists l) l ++ exprFaults S Γ a) ++ (exprFaults S Γ b ++ exprFaults S Γ e)
-  exprFaults S Γ (claim t e cs) = exprFaults S Γ e ++ conditionFaults S.text Γ.names cs
-  exprFaults S Γ (nest t e) = exprFaults S Γ e
+  pub expr_faults : Sheet → Scope → Raw.Expr → List ℕ
+  expr_faults S Γ (num t) = []
+  expr_faults S Γ (name t) = found (slot_in S.text Γ.names t) t
+  expr_faults S Γ (calc t a b) = expr_faults S Γ a ++ expr_faults S Γ b
+  expr_faults S Γ (read t e) = found (slot_in S.text Γ.lists t) t ++ expr_faults S Γ e
+  expr_faults S Γ (call t es) = call_faults (params_of S (rule_in S.text S.rules t)) t (count_args es) (λ ps. args_faults S Γ ps es)
+  expr_faults S Γ (bind t n a b) = (fresh S.text Γ n ++ expr_faults S Γ a) ++ expr_faults S (naming Γ n) b
+  expr_faults S Γ (test t c a b d e) = (expr_faults S Γ a ++ expr_faults S Γ b) ++ (expr_faults S Γ d ++ expr_faults S Γ e)
+  expr_faults S Γ (put t l a b e) = (found (slot_in S.text Γ.lists l) l ++ expr_faults S Γ a) ++ (expr_faults S Γ b ++ expr_faults S Γ e)
+  expr_faults S Γ (claim t e cs) = expr_faults S Γ e ++ condition_faults S.text Γ.names cs
+  expr_faults S Γ (nest t e) = expr_faults S Γ e
 
   -- each argument is for the parameter with as many before it
-  pub argsFaults : Sheet → Scope → List Raw.Param → Raw.Args → List ℕ
-  argsFaults S Γ ps none = []
-  argsFaults S Γ ps (more es e) = argsFaults S Γ ps es ++ argFaults (length_at ps (countArgs es)) (bareList S.text Γ.lists e) (place_of e) (exprFaults S Γ e)
+  pub args_faults : Sheet → Scope → List Raw.Param → Raw.Args → List ℕ
+  args_faults S Γ ps none = []
+  args_faults S Γ ps (more es e) = args_faults S Γ ps es ++ arg_faults (length_at ps (count_args es)) (bare_list S.text Γ.lists e) (place_of e) (expr_faults S Γ e)
 
 -- a head declares each of its names once
-abbrev pub lengthFaults : List ℕ → Scope → Token → Option Token → List ℕ
-lengthFaults text Γ list None = []
-lengthFaults text Γ list (Some n) = fresh text (listing Γ list) n
+abbrev pub length_faults : List ℕ → Scope → Token → Option Token → List ℕ
+length_faults text Γ list None = []
+length_faults text Γ list (Some n) = fresh text (listing Γ list) n
 
-abbrev pub paramFaults : List ℕ → Scope → Raw.Param → List ℕ
-paramFaults text Γ p = fresh text Γ p.name ++ lengthFaults text Γ p.name p.length
+abbrev pub param_faults : List ℕ → Scope → Raw.Param → List ℕ
+param_faults text Γ p = fresh text Γ p.name ++ length_faults text Γ p.name p.length
 
-unfoldable pub headFaults : List ℕ → Scope → List Raw.Param → List ℕ
-headFaults text Γ [] = []
-headFaults text Γ (p ∷ ps) = paramFaults text Γ p ++ headFaults text (paramScope Γ p.name p.length) ps
+unfoldable pub head_faults : List ℕ → Scope → List Raw.Param → List ℕ
+head_faults text Γ [] = []
+head_faults text Γ (p ∷ ps) = param_faults text Γ p ++ head_faults text (param_scope Γ p.name p.length) ps
 
-abbrev pub ruleFaults : Sheet → Raw.Rule → List ℕ
-ruleFaults S r =
-    let Γ = headScope empty r.params in
-    headFaults S.text empty r.params ++ ((conditionFaults S.text Γ.names r.needs ++ conditionFaults S.text Γ.names r.gives) ++ exprFaults S Γ r.body)
+abbrev pub rule_faults : Sheet → Raw.Rule → List ℕ
+rule_faults S r =
+    let Γ = head_scope empty r.params in
+    head_faults S.text empty r.params ++ ((condition_faults S.text Γ.names r.needs ++ condition_faults S.text Γ.names r.gives) ++ expr_faults S Γ r.body)
 
 -- rule after rule; a rule's name is declared once
-unfoldable pub rulesFaults : Sheet → List Raw.Rule → List Raw.Rule → List ℕ
-rulesFaults S before [] = []
-rulesFaults S before (r ∷ rs) = (cond (is_some (ruleIn S.text before r.name)) (r.name.place ∷ []) [] ++ ruleFaults S r) ++ rulesFaults S (before ++ r ∷ []) rs
+unfoldable pub rules_faults : Sheet → List Raw.Rule → List Raw.Rule → List ℕ
+rules_faults S before [] = []
+rules_faults S before (r ∷ rs) = (cond (is_some (rule_in S.text before r.name)) (r.name.place ∷ []) [] ++ rule_faults S r) ++ rules_faults S (before ++ r ∷ []) rs
 
 -- the first place at which a name is at fault
-abbrev pub nameFault : List ℕ → Raw.Sheet → Option ℕ
-nameFault text rules = least (rulesFaults (record { text = text; rules = rules }) [] rules)
+abbrev pub name_fault : List ℕ → Raw.Sheet → Option ℕ
+name_fault text rules = least (rules_faults (record { text = text; rules = rules }) [] rules)

@@ -19,18 +19,18 @@ next None = None
 next (Some i) = Some (suc i)
 
 -- the first of the names that is written so
-unfoldable pub slotIn : List ℕ → List Token → Token → Option ℕ
-slotIn text [] t = None
-slotIn text (n ∷ ns) t = cond (same_name text n t) (Some 0) (next (slotIn text ns t))
+unfoldable pub slot_in : List ℕ → List Token → Token → Option ℕ
+slot_in text [] t = None
+slot_in text (n ∷ ns) t = cond (same_name text n t) (Some 0) (next (slot_in text ns t))
 
 -- the first of the rules that is named so
-unfoldable pub ruleIn : List ℕ → List Raw.Rule → Token → Option ℕ
-ruleIn text [] t = None
-ruleIn text (r ∷ rs) t = cond (same_name text r.name t) (Some 0) (next (ruleIn text rs t))
+unfoldable pub rule_in : List ℕ → List Raw.Rule → Token → Option ℕ
+rule_in text [] t = None
+rule_in text (r ∷ rs) t = cond (same_name text r.name t) (Some 0) (next (rule_in text rs t))
 
 -- the token is the name of a number or of a list in scope
 abbrev pub known : List ℕ → Scope → Token → Bool
-known text Γ t = is_some (slotIn text Γ.names t) || is_some (slotIn text Γ.lists t)
+known text Γ t = is_some (slot_in text Γ.names t) || is_some (slot_in text Γ.lists t)
 
 abbrev pub naming : Scope → Token → Scope
 naming Γ t = record { names = Γ.names ++ t ∷ []; lists = Γ.lists }
@@ -42,10 +42,10 @@ abbrev pub empty : Scope
 empty = record { names = []; lists = [] }
 
 -- a parameter declares its name, and a list its length's after it
-abbrev pub paramScope : Scope → Token → Option Token → Scope
-paramScope Γ name None = naming Γ name
-paramScope Γ name (Some n) = naming (listing Γ name) n
+abbrev pub param_scope : Scope → Token → Option Token → Scope
+param_scope Γ name None = naming Γ name
+param_scope Γ name (Some n) = naming (listing Γ name) n
 
-unfoldable pub headScope : Scope → List Raw.Param → Scope
-headScope Γ [] = Γ
-headScope Γ (p ∷ ps) = headScope (paramScope Γ p.name p.length) ps
+unfoldable pub head_scope : Scope → List Raw.Param → Scope
+head_scope Γ [] = Γ
+head_scope Γ (p ∷ ps) = head_scope (param_scope Γ p.name p.length) ps

@@ -4,8 +4,8 @@ use Rattle.letters.specs.declared.kind.Kind.TheVariants.{Comma, Minus}
 use Rattle.letters.specs.declared.token.Token.{Token}
 use Rattle.grammar.specs.Raw as Raw
 use Rattle.grammar.specs.Parsers.{Look, is_a}
-use Rattle.grammar.specs.Sheets.{sumSign}
-use Rattle.grammar.specs.Stretches.{Past, item_at, conditionAt, param_at}
+use Rattle.grammar.specs.Sheets.{sum_sign}
+use Rattle.grammar.specs.Stretches.{Past, item_at, condition_at, param_at}
 use Rattle.naming.specs.declared.head.Head.{Head}
 use Rattle.naming.specs.declared.head.Param.{Param}
 
@@ -23,13 +23,13 @@ end l b one zero i = i
 end l b one (suc n) i = cond (b (l i)) (end l b one n (one (l i) (suc i)).next) i
 
 abbrev pub items : Look → ℕ → ℕ → List Raw.Item
-items l = rest l sumSign (λ t i. item_at l (is_a Minus t) i)
+items l = rest l sum_sign (λ t i. item_at l (is_a Minus t) i)
 
-abbrev pub itemsEnd : Look → ℕ → ℕ → ℕ
-itemsEnd l = end l sumSign (λ t i. item_at l (is_a Minus t) i)
+abbrev pub items_end : Look → ℕ → ℕ → ℕ
+items_end l = end l sum_sign (λ t i. item_at l (is_a Minus t) i)
 
 abbrev pub conditions : ℕ → Look → ℕ → ℕ → List Raw.Condition
-conditions n l = rest l (is_a Comma) (λ t i. conditionAt n l i)
+conditions n l = rest l (is_a Comma) (λ t i. condition_at n l i)
 
 abbrev pub params : Look → ℕ → ℕ → List Raw.Param
 params l = rest l (is_a Comma) (λ t i. param_at l i)

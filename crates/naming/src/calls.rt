@@ -1,12 +1,12 @@
 ghost use Rattle.std.specs.Prelude.{◌≡◌, ℕ, ◌<◌, ◌≤◌, List, length, drop, is_some, Some, None};
 ghost use Rattle.std.specs.List.{slice_get};
 ghost use Rattle.grammar.specs.Raw as raw;
-ghost use Rattle.grammar.specs.Trees.{look_of, ruleIn, rulesTo, rawAt, argsAt};
-ghost use Rattle.naming.specs.Calls.{last_of, name_of, inner_of, ownPlace, ruledOf, argFault, named, headAt, called};
-ghost use Rattle.naming.specs.Faults.{bareList, place_of, countArgs, params_of, length_at, callFaults};
-ghost use Rattle.naming.specs.Reaches.{tokensOf, sheetOf};
+ghost use Rattle.grammar.specs.Trees.{look_of, rule_in, rules_to, raw_at, args_at};
+ghost use Rattle.naming.specs.Calls.{last_of, name_of, inner_of, own_place, ruled_of, arg_fault, named, head_at, called};
+ghost use Rattle.naming.specs.Faults.{bare_list, place_of, count_args, params_of, length_at, call_faults};
+ghost use Rattle.naming.specs.Reaches.{tokens_of, sheet_of};
 ghost use Rattle.naming.specs.Scopes as scopes;
-ghost use Rattle.naming.specs.Sources.{source_of, nodeIn};
+ghost use Rattle.naming.specs.Sources.{source_of, node_in};
 ghost use Rattle.naming.specs.Stretching.{left};
 
 use crate::head::Head;
@@ -19,7 +19,7 @@ use letters::{Token, same_name};
 impl Written<'_> {
     // The last argument at a position, and those before it.
     pub fn last(self, top: usize, at: usize) -> Option<Last>
-        ensures read { result ≡ last_of (nodeIn top self.entry.nodes.now at) }
+        ensures read { result ≡ last_of (node_in top self.entry.nodes.now at) }
         ensures below { elim result [ Some n ↦ at < top | None ↦ Unit {0} ] }
     {
         match self.node(top, at) {
@@ -30,7 +30,7 @@ impl Written<'_> {
 
     // The token of the bare name at a position.
     pub fn name(self, top: usize, at: usize) -> Option<usize>
-        ensures { result ≡ name_of (nodeIn top self.entry.nodes.now at) }
+        ensures { result ≡ name_of (node_in top self.entry.nodes.now at) }
     {
         match self.node(top, at) {
             Some(Node::Name(token)) => Some(token),
@@ -40,7 +40,7 @@ impl Written<'_> {
 
     // What is in the brackets at a position.
     fn inner(self, top: usize, at: usize) -> Option<usize>
-        ensures read { result ≡ inner_of (nodeIn top self.entry.nodes.now at) }
+        ensures read { result ≡ inner_of (node_in top self.entry.nodes.now at) }
         ensures below { elim result [ Some n ↦ at < top | None ↦ Unit {0} ] }
     {
         match self.node(top, at) {
@@ -51,7 +51,7 @@ impl Written<'_> {
 
     // The place of the token of the node at a position.
     fn own_place(self, top: usize, at: usize) -> usize
-        ensures { result ≡ ownPlace (look_of (source_of self.entry)) (nodeIn top self.entry.nodes.now at) }
+        ensures { result ≡ own_place (look_of (source_of self.entry)) (node_in top self.entry.nodes.now at) }
     {
         let Some(node) = self.node(top, at) else {
             return 0;
@@ -76,7 +76,7 @@ impl Written<'_> {
 
     // The place of the expression at a position; brackets alone have that of what is in them.
     pub fn place(self, top: usize, at: usize) -> usize
-        ensures { result ≡ place_of (rawAt (source_of self.entry) top self.entry.nodes.now at) }
+        ensures { result ≡ place_of (raw_at (source_of self.entry) top self.entry.nodes.now at) }
     {
         let mut top = top;
         let mut at = at;
@@ -89,7 +89,7 @@ impl Written<'_> {
 
     // The bare name of one of these lists stands at a position.
     fn is_list(self, lists: &[usize], top: usize, at: usize) -> bool
-        ensures { result ≡ is_some (bareList self.entry.text.now (tokensOf self.entry lists.now) (rawAt (source_of self.entry) top self.entry.nodes.now at)) }
+        ensures { result ≡ is_some (bare_list self.entry.text.now (tokens_of self.entry lists.now) (raw_at (source_of self.entry) top self.entry.nodes.now at)) }
     {
         match self.name(top, at) {
             Some(name) => self.is_among(lists, self.token(name)),
@@ -106,7 +106,7 @@ impl Written<'_> {
         at: usize,
         inside: Option<usize>,
     ) -> Option<usize>
-        ensures { result ≡ argFault list (is_some (bareList self.entry.text.now (tokensOf self.entry lists.now) (rawAt (source_of self.entry) top self.entry.nodes.now at))) (place_of (rawAt (source_of self.entry) top self.entry.nodes.now at)) inside }
+        ensures { result ≡ arg_fault list (is_some (bare_list self.entry.text.now (tokens_of self.entry lists.now) (raw_at (source_of self.entry) top self.entry.nodes.now at))) (place_of (raw_at (source_of self.entry) top self.entry.nodes.now at)) inside }
     {
         if !list {
             return inside;
@@ -120,7 +120,7 @@ impl Written<'_> {
 
     // How many arguments stand at a position.
     fn count_args(self, top: usize, at: usize) -> usize
-        ensures { result ≡ countArgs (argsAt (source_of self.entry) top self.entry.nodes.now at) }
+        ensures { result ≡ count_args (args_at (source_of self.entry) top self.entry.nodes.now at) }
     {
         let mut top = top;
         let mut at = at;
@@ -149,7 +149,7 @@ impl Written<'_> {
 
     // The parts of the rule at a position.
     pub fn rule(self, at: usize) -> Option<Ruled>
-        ensures { result ≡ ruledOf (nodeIn (length self.entry.nodes.now) self.entry.nodes.now at) }
+        ensures { result ≡ ruled_of (node_in (length self.entry.nodes.now) self.entry.nodes.now at) }
     {
         match self.node(self.nodes.len(), at) {
             Some(Node::Rule(keyword, name, params, needs, gives, body)) => {
@@ -168,7 +168,7 @@ impl Written<'_> {
 
     // Where the parameters begin of the rule at a position, if it is named so.
     fn head_named(self, at: usize, token: Token) -> Option<usize>
-        ensures { named self.entry.text.now (ruleIn (source_of self.entry) (rawAt (source_of self.entry) at self.entry.nodes.now) (slice_get self.entry.nodes.now at)) token ≡ headAt self.entry result }
+        ensures { named self.entry.text.now (rule_in (source_of self.entry) (raw_at (source_of self.entry) at self.entry.nodes.now) (slice_get self.entry.nodes.now at)) token ≡ head_at self.entry result }
     {
         let rule = self.rule(at)?;
         if same_name(self.text, self.token(rule.name), token) {
@@ -180,7 +180,7 @@ impl Written<'_> {
 
     // Where the parameters begin of the first rule below a position that is named so.
     pub fn rule_named(self, count: usize, token: Token) -> Option<usize>
-        ensures { named self.entry.text.now (rulesTo (source_of self.entry) count self.entry.nodes.now) token ≡ headAt self.entry result }
+        ensures { named self.entry.text.now (rules_to (source_of self.entry) count self.entry.nodes.now) token ≡ head_at self.entry result }
     {
         for at in 0..count {
             if let Some(params) = self.head_named(at, token) {
@@ -192,7 +192,7 @@ impl Written<'_> {
 
     // Where the parameters begin of the rule that is called, if there is one that takes so many arguments.
     pub fn callee(self, token: Token, top: usize, at: usize) -> Option<usize>
-        ensures { (inside : List raw.Param → List ℕ) → callFaults (params_of (sheetOf self.entry) (scopes.ruleIn self.entry.text.now (sheetOf self.entry).rules token)) token (countArgs (argsAt (source_of self.entry) top self.entry.nodes.now at)) inside ≡ called self.entry result token inside }
+        ensures { (inside : List raw.Param → List ℕ) → call_faults (params_of (sheet_of self.entry) (scopes.rule_in self.entry.text.now (sheet_of self.entry).rules token)) token (count_args (args_at (source_of self.entry) top self.entry.nodes.now at)) inside ≡ called self.entry result token inside }
     {
         let params = self.rule_named(self.nodes.len(), token)?;
         if self.count_left(self.head(params)) == self.count_args(top, at) {

@@ -1,11 +1,11 @@
 ghost use Rattle.std.specs.Prelude.{◌≡◌, ◌+◌, ◌≤◌, max, Bool, false, ◌++◌, length};
-ghost use Rattle.letters.specs.Kinds.{sameKind};
-ghost use Rattle.grammar.specs.Sheets.{sumSign};
-ghost use Rattle.grammar.specs.Stretches.{item_at, sideAt, conditionAt, conditionsAt, optionalAt};
+ghost use Rattle.letters.specs.Kinds.{same_kind};
+ghost use Rattle.grammar.specs.Sheets.{sum_sign};
+ghost use Rattle.grammar.specs.Stretches.{item_at, side_at, condition_at, conditions_at, optional_at};
 ghost use Rattle.grammar.specs.Trees.{look_of};
-ghost use Rattle.naming.specs.Faults.{atomFaults, sideFaults, conditionFaults};
+ghost use Rattle.naming.specs.Faults.{atom_faults, side_faults, condition_faults};
 ghost use Rattle.naming.specs.Least.{least};
-ghost use Rattle.naming.specs.Reaches.{tokensOf};
+ghost use Rattle.naming.specs.Reaches.{tokens_of};
 ghost use Rattle.naming.specs.Sources.{source_of};
 
 use crate::least::earlier;
@@ -16,7 +16,7 @@ use letters::Kind;
 impl Written<'_> {
     // A plus or a minus stands at a position.
     fn is_sign(self, at: usize) -> bool
-        ensures { result ≡ sumSign (look_of (source_of self.entry) at) }
+        ensures { result ≡ sum_sign (look_of (source_of self.entry) at) }
     {
         let kind = self.token(at).kind;
         kind.is(Kind::Plus) || kind.is(Kind::Minus)
@@ -24,7 +24,7 @@ impl Written<'_> {
 
     // A name in a condition is a number's.
     fn atom_fault(self, names: &[usize], at: usize) -> Option<usize>
-        ensures { result ≡ least (atomFaults self.entry.text.now (tokensOf self.entry names.now) (look_of (source_of self.entry) at)) }
+        ensures { result ≡ least (atom_faults self.entry.text.now (tokens_of self.entry names.now) (look_of (source_of self.entry) at)) }
     {
         let token = self.token(at);
         if token.kind.is(Kind::Name) {
@@ -36,7 +36,7 @@ impl Written<'_> {
 
     fn item_fault(self, names: &[usize], at: usize) -> Span
         requires { at ≤ 16390 }
-        ensures fault { (m : Bool) → result.fault ≡ least (atomFaults self.entry.text.now (tokensOf self.entry names.now) (item_at (look_of (source_of self.entry)) m at).value.atom) }
+        ensures fault { (m : Bool) → result.fault ≡ least (atom_faults self.entry.text.now (tokens_of self.entry names.now) (item_at (look_of (source_of self.entry)) m at).value.atom) }
         ensures next { (m : Bool) → result.next ≡ (item_at (look_of (source_of self.entry)) m at).next }
         ensures near { result.next ≤ at + 3 }
     {
@@ -55,8 +55,8 @@ impl Written<'_> {
 
     fn side_fault(self, names: &[usize], at: usize) -> Span
         requires { at ≤ 16390 }
-        ensures fault { result.fault ≡ least (sideFaults self.entry.text.now (tokensOf self.entry names.now) (sideAt (length self.entry.tokens.now) (look_of (source_of self.entry)) at).value) }
-        ensures next { result.next ≡ (sideAt (length self.entry.tokens.now) (look_of (source_of self.entry)) at).next }
+        ensures fault { result.fault ≡ least (side_faults self.entry.text.now (tokens_of self.entry names.now) (side_at (length self.entry.tokens.now) (look_of (source_of self.entry)) at).value) }
+        ensures next { result.next ≡ (side_at (length self.entry.tokens.now) (look_of (source_of self.entry)) at).next }
         ensures near { result.next ≤ max at 16384 + 3 }
     {
         let first = self.item_fault(names, at);
@@ -74,8 +74,8 @@ impl Written<'_> {
 
     fn condition_fault(self, names: &[usize], at: usize) -> Span
         requires { at ≤ 16384 }
-        ensures fault { result.fault ≡ least (sideFaults self.entry.text.now (tokensOf self.entry names.now) (conditionAt (length self.entry.tokens.now) (look_of (source_of self.entry)) at).value.left ++ sideFaults self.entry.text.now (tokensOf self.entry names.now) (conditionAt (length self.entry.tokens.now) (look_of (source_of self.entry)) at).value.right) }
-        ensures next { result.next ≡ (conditionAt (length self.entry.tokens.now) (look_of (source_of self.entry)) at).next }
+        ensures fault { result.fault ≡ least (side_faults self.entry.text.now (tokens_of self.entry names.now) (condition_at (length self.entry.tokens.now) (look_of (source_of self.entry)) at).value.left ++ side_faults self.entry.text.now (tokens_of self.entry names.now) (condition_at (length self.entry.tokens.now) (look_of (source_of self.entry)) at).value.right) }
+        ensures next { result.next ≡ (condition_at (length self.entry.tokens.now) (look_of (source_of self.entry)) at).next }
         ensures near { result.next ≤ 16393 }
     {
         let left = self.side_fault(names, at);
@@ -88,7 +88,7 @@ impl Written<'_> {
 
     // The first name in conditions that is no number's.
     pub(crate) fn conditions_fault(self, names: &[usize], at: usize) -> Option<usize>
-        ensures { result ≡ least (conditionFaults self.entry.text.now (tokensOf self.entry names.now) (conditionsAt (length self.entry.tokens.now) (look_of (source_of self.entry)) at).value) }
+        ensures { result ≡ least (condition_faults self.entry.text.now (tokens_of self.entry names.now) (conditions_at (length self.entry.tokens.now) (look_of (source_of self.entry)) at).value) }
     {
         if at > self.tokens.len() {
             return None;
@@ -108,8 +108,8 @@ impl Written<'_> {
 
     // The same of the conditions after a keyword, if that stands there.
     pub(crate) fn optional_fault(self, names: &[usize], keyword: Kind, at: usize) -> Option<usize>
-        requires { sameKind Kind.End keyword ≡ false }
-        ensures { result ≡ least (conditionFaults self.entry.text.now (tokensOf self.entry names.now) (optionalAt (length self.entry.tokens.now) (look_of (source_of self.entry)) keyword at)) }
+        requires { same_kind Kind.End keyword ≡ false }
+        ensures { result ≡ least (condition_faults self.entry.text.now (tokens_of self.entry names.now) (optional_at (length self.entry.tokens.now) (look_of (source_of self.entry)) keyword at)) }
     {
         if self.token(at).kind.is(keyword) {
             self.conditions_fault(names, at + 1)

@@ -1,10 +1,10 @@
 ghost use Rattle.std.specs.Prelude.{◌≡◌, ◌+◌, ◌<◌, ◌≤◌, length};
 ghost use Rattle.pile.specs.Entries.{entries, room};
 ghost use Rattle.grammar.specs.Trees.{look_of};
-ghost use Rattle.naming.specs.Faults.{paramFaults, headFaults};
+ghost use Rattle.naming.specs.Faults.{param_faults, head_faults};
 ghost use Rattle.naming.specs.Least.{least};
 ghost use Rattle.naming.specs.Reaches.{scope_of};
-ghost use Rattle.naming.specs.Scopes.{paramScope, headScope};
+ghost use Rattle.naming.specs.Scopes.{param_scope, head_scope};
 ghost use Rattle.naming.specs.Sources.{source_of};
 ghost use Rattle.naming.specs.Stretching.{left, written};
 
@@ -23,8 +23,8 @@ impl Written<'_> {
     ) -> Option<usize>
         requires names { length (entries names.old) < room names.old }
         requires lists { length (entries lists.old) < room lists.old }
-        ensures value { result ≡ least (paramFaults self.entry.text.now (scope_of self.entry (entries names.old) (entries lists.old)) (written (look_of (source_of self.entry)) param)) }
-        ensures scope { scope_of self.entry (entries names.new) (entries lists.new) ≡ paramScope (scope_of self.entry (entries names.old) (entries lists.old)) (written (look_of (source_of self.entry)) param).name (written (look_of (source_of self.entry)) param).length }
+        ensures value { result ≡ least (param_faults self.entry.text.now (scope_of self.entry (entries names.old) (entries lists.old)) (written (look_of (source_of self.entry)) param)) }
+        ensures scope { scope_of self.entry (entries names.new) (entries lists.new) ≡ param_scope (scope_of self.entry (entries names.old) (entries lists.old)) (written (look_of (source_of self.entry)) param).name (written (look_of (source_of self.entry)) param).length }
         ensures more { length (entries names.new) ≡ length (entries names.old) + 1 }
         ensures few { length (entries lists.new) ≤ length (entries lists.old) + 1 }
         ensures room { (room names.new ≡ room names.old) × (room lists.new ≡ room lists.old) }
@@ -53,8 +53,8 @@ impl Written<'_> {
     ) -> Option<usize>
         requires names { length (entries names.old) + length (left (look_of (source_of self)) head) ≤ room names.old }
         requires lists { length (entries lists.old) + length (left (look_of (source_of self)) head) ≤ room lists.old }
-        ensures value { result ≡ least (headFaults self.entry.text.now (scope_of self.entry (entries names.old) (entries lists.old)) (left (look_of (source_of self.entry)) head)) }
-        ensures scope { scope_of self.entry (entries names.new) (entries lists.new) ≡ headScope (scope_of self.entry (entries names.old) (entries lists.old)) (left (look_of (source_of self.entry)) head) }
+        ensures value { result ≡ least (head_faults self.entry.text.now (scope_of self.entry (entries names.old) (entries lists.old)) (left (look_of (source_of self.entry)) head)) }
+        ensures scope { scope_of self.entry (entries names.new) (entries lists.new) ≡ head_scope (scope_of self.entry (entries names.old) (entries lists.old)) (left (look_of (source_of self.entry)) head) }
         ensures more { length (entries names.new) ≡ length (entries names.old) + length (left (look_of (source_of self.entry)) head) }
         ensures room { (room names.new ≡ room names.old) × (room lists.new ≡ room lists.old) }
     {

@@ -1,11 +1,11 @@
 ghost use Rattle.std.specs.Prelude.{◌≡◌, ◌+◌, ◌≤◌, length, drop};
-ghost use Rattle.grammar.specs.Trees.{look_of, argsAt};
+ghost use Rattle.grammar.specs.Trees.{look_of, args_at};
 ghost use Rattle.pile.specs.Entries.{entries, room};
-ghost use Rattle.naming.specs.Faults.{countArgs};
+ghost use Rattle.naming.specs.Faults.{count_args};
 ghost use Rattle.naming.specs.Reaches.{Went};
 ghost use Rattle.naming.specs.Sources.{source_of};
 ghost use Rattle.naming.specs.Stretching.{left};
-ghost use Rattle.naming.specs.Walks.{headParams, exprAt, argumentsAt};
+ghost use Rattle.naming.specs.Walks.{head_params, expr_at, arguments_at};
 
 use crate::least::earlier;
 use crate::taken::Taken;
@@ -24,7 +24,7 @@ impl Written<'_> {
         at: usize,
     ) -> Option<usize>
         requires { length (entries names.old) + top ≤ room names.old }
-        ensures { Went result (exprAt self.entry lists.now top at) names.old names.new }
+        ensures { Went result (expr_at self.entry lists.now top at) names.old names.new }
     {
         let Some(node) = self.node(top, at) else {
             return None;
@@ -93,8 +93,8 @@ impl Written<'_> {
         at: usize,
     ) -> Taken
         requires { length (entries names.old) + top ≤ room names.old }
-        ensures went { Went result.fault (argumentsAt self.entry lists.now params top at) names.old names.new }
-        ensures head { left (look_of (source_of self.entry)) result.head ≡ drop (countArgs (argsAt (source_of self.entry) top self.entry.nodes.now at)) (headParams self.entry params) }
+        ensures went { Went result.fault (arguments_at self.entry lists.now params top at) names.old names.new }
+        ensures head { left (look_of (source_of self.entry)) result.head ≡ drop (count_args (args_at (source_of self.entry) top self.entry.nodes.now at)) (head_params self.entry params) }
     {
         match self.last(top, at) {
             Some(part) => {

@@ -1,6 +1,6 @@
 ghost use Rattle.std.specs.Prelude.{◌≡◌, ◌<◌, take, Some, None};
 ghost use Rattle.grammar.specs.Trees.{look_of};
-ghost use Rattle.naming.specs.Sources.{source_of, nodeIn};
+ghost use Rattle.naming.specs.Sources.{source_of, node_in};
 
 use crate::written::Written;
 use grammar::Node;
@@ -42,7 +42,7 @@ impl Written<'_> {
 
     // The node at a position, if that lies below `top`.
     pub fn node(self, top: usize, at: usize) -> Option<Node>
-        ensures read { result ≡ nodeIn top self.entry.nodes.now at }
+        ensures read { result ≡ node_in top self.entry.nodes.now at }
         ensures below { elim result [ Some n ↦ at < top | None ↦ Unit {0} ] }
     {
         if at < top && at < self.nodes.len() {

@@ -1,8 +1,8 @@
 ghost use Rattle.std.specs.Prelude.{◌≡◌};
 ghost use Rattle.naming.specs.Faults.{found, fresh};
 ghost use Rattle.naming.specs.Least.{least};
-ghost use Rattle.naming.specs.Reaches.{among, tokensOf, scope_of};
-ghost use Rattle.naming.specs.Scopes.{slotIn};
+ghost use Rattle.naming.specs.Reaches.{among, tokens_of, scope_of};
+ghost use Rattle.naming.specs.Scopes.{slot_in};
 
 use crate::written::Written;
 use letters::{Token, same_name};
@@ -22,7 +22,7 @@ impl Written<'_> {
 
     // The place of a name that is not one of these.
     pub fn unknown(self, numbers: &[usize], token: Token) -> Option<usize>
-        ensures { result ≡ least (found (slotIn self.entry.text.now (tokensOf self.entry numbers.now) token) token) }
+        ensures { result ≡ least (found (slot_in self.entry.text.now (tokens_of self.entry numbers.now) token) token) }
     {
         if self.is_among(numbers, token) {
             None

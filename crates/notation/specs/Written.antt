@@ -12,17 +12,17 @@ relation AtMost = codes "<= "
 relation Unequal = codes "!= "
 
 -- a non-zero coefficient, its quantity and a blank
-abbrev pub termText : ℤ → ℕ → List ℕ
-termText c j = cond (is_zero c) [] (signed_decimal c ++ (codes "*q" ++ (decimal j ++ codes " ")))
+abbrev pub term_text : ℤ → ℕ → List ℕ
+term_text c j = cond (is_zero c) [] (signed_decimal c ++ (codes "*q" ++ (decimal j ++ codes " ")))
 
 -- the terms of the quantities below n, in their order
-unfoldable pub termsTo : Row → ℕ → List ℕ
-termsTo r zero = []
-termsTo r (suc n) = termsTo r n ++ termText (coef r n) n
+unfoldable pub terms_to : Row → ℕ → List ℕ
+terms_to r zero = []
+terms_to r (suc n) = terms_to r n ++ term_text (coef r n) n
 
 abbrev pub or_zero : List ℕ → List ℕ
 or_zero [] = codes "0 "
 or_zero (c ∷ cs) = c ∷ cs
 
-abbrev pub rowText : Row → List ℕ
-rowText r = or_zero (termsTo r 16) ++ (relation r.kind ++ signed_decimal r.bound)
+abbrev pub row_text : Row → List ℕ
+row_text r = or_zero (terms_to r 16) ++ (relation r.kind ++ signed_decimal r.bound)

@@ -1,5 +1,5 @@
 ghost use Rattle.std.specs.Prelude.{◌≡◌, ◌<◌, IfOk};
-ghost use Rattle.notation.specs.Written.{rowText};
+ghost use Rattle.notation.specs.Written.{row_text};
 
 use crate::misread::Misread;
 use crate::writing::row_text;
@@ -68,7 +68,7 @@ fn guess_row(text: &str) -> Result<Row, Misread> {
 
 // The row that a text writes; there is one text for each row.
 pub fn read_row(heap: Global, text: &str) -> Result<Row, Misread>
-    ensures { IfOk result (λ row. text.now ≡ rowText row) }
+    ensures { IfOk result (λ row. text.now ≡ row_text row) }
 {
     let row = guess_row(text)?;
     let written = row_text(heap, &row)?;

@@ -1,5 +1,5 @@
 ghost use Rattle.std.specs.Prelude.{◌≡◌, ◌++◌, IfOk, string_bytes, OnOk};
-ghost use Rattle.notation.specs.Written.{relation, termText, termsTo, or_zero, rowText};
+ghost use Rattle.notation.specs.Written.{relation, term_text, terms_to, or_zero, row_text};
 
 use rows::{Kind, QUANTITIES, Row};
 use std::alloc::{AllocError, Global};
@@ -14,7 +14,7 @@ fn relation_text(kind: Kind) -> &'static str
 }
 
 fn push_term(heap: Global, text: &mut String, c: i32, j: usize) -> Result<(), AllocError>
-    ensures { OnOk result (string_bytes text.new ≡ string_bytes text.old ++ termText c j) }
+    ensures { OnOk result (string_bytes text.new ≡ string_bytes text.old ++ term_text c j) }
 {
     if c == 0 {
         return Ok(());
@@ -24,7 +24,7 @@ fn push_term(heap: Global, text: &mut String, c: i32, j: usize) -> Result<(), Al
 }
 
 fn terms_text(heap: Global, row: &Row) -> Result<String, AllocError>
-    ensures { IfOk result (λ s. string_bytes s ≡ termsTo row.now 16) }
+    ensures { IfOk result (λ s. string_bytes s ≡ terms_to row.now 16) }
 {
     let mut text = String::new(heap);
     for j in 0..QUANTITIES {
@@ -34,7 +34,7 @@ fn terms_text(heap: Global, row: &Row) -> Result<String, AllocError>
 }
 
 fn sum_text(heap: Global, row: &Row) -> Result<String, AllocError>
-    ensures { IfOk result (λ s. string_bytes s ≡ or_zero (termsTo row.now 16)) }
+    ensures { IfOk result (λ s. string_bytes s ≡ or_zero (terms_to row.now 16)) }
 {
     let text = terms_text(heap, row)?;
     if text.is_empty() {
@@ -45,7 +45,7 @@ fn sum_text(heap: Global, row: &Row) -> Result<String, AllocError>
 
 // The row as it is written: its non-zero coefficients or 0, the relation, the bound.
 pub fn row_text(heap: Global, row: &Row) -> Result<String, AllocError>
-    ensures { IfOk result (λ s. string_bytes s ≡ rowText row.now) }
+    ensures { IfOk result (λ s. string_bytes s ≡ row_text row.now) }
 {
     let sum = sum_text(heap, row)?;
     let sum = sum.as_str();

@@ -1,8 +1,8 @@
 -- Loops that divide each number and hold it to a limit.
 use Rattle.std.proofs.Common.{◌≡◌, ℕ, ◌+◌, ◌<◌, ◌≤◌, Bool, true, false, cond, ◌&&◌, List, [], ◌∷◌, ◌++◌, map, length, get_or, take, drop, set, ℤ, Some, None, sym, refl, ap, ◌∙◌, ap₂, arith}
 use Rattle.std.proofs.lemmas.List.{drop_more, drop_all, take_all, take_more, take_more_set, length-set, length-map, get_or-map}
-use Rattle.rows.specs.Limits.{small, allSmall}
-use Rattle.provers.specs.Derivations.{kept, modest, allModest}
+use Rattle.rows.specs.Limits.{small, all_small}
+use Rattle.provers.specs.Derivations.{kept, modest, all_modest}
 
 pub kept-some : {X : Type 0} (test : X → Bool) (x y : X) → Some y ≡ kept test x → (test x ≡ true) × (x ≡ y)
 kept-some test x y h =
@@ -56,18 +56,18 @@ module _ {X Y : Type 0} (test : Y → Bool) (all : List Y → Bool) (none : all 
         ap Some e ∙ sym (ap (λ b. cond b (Some ys) None) (h.rest ∙ ap all (drop_all i ys n) ∙ none))
 
 -- the two tests of a derived row's numbers
-pub small-none : allSmall [] ≡ true
-unfolding allSmall
+pub small-none : all_small [] ≡ true
+unfolding all_small
 small-none = refl
 
-pub small-more : (z : ℤ) (zs : List ℤ) → allSmall (z ∷ zs) ≡ (small z && allSmall zs)
-unfolding allSmall
+pub small-more : (z : ℤ) (zs : List ℤ) → all_small (z ∷ zs) ≡ (small z && all_small zs)
+unfolding all_small
 small-more z zs = refl
 
-pub modest-none : allModest [] ≡ true
-unfolding allModest
+pub modest-none : all_modest [] ≡ true
+unfolding all_modest
 modest-none = refl
 
-pub modest-more : (n : ℕ) (ns : List ℕ) → allModest (n ∷ ns) ≡ (modest n && allModest ns)
-unfolding allModest
+pub modest-more : (n : ℕ) (ns : List ℕ) → all_modest (n ∷ ns) ≡ (modest n && all_modest ns)
+unfolding all_modest
 modest-more n ns = refl

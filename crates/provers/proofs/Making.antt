@@ -1,8 +1,8 @@
 -- How a derived row is made of its parts.
 use Rattle.std.proofs.Common.{◌≡◌, ℕ, Bool, true, false, cond, ◌&&◌, List, ℤ, Some, None, Option, refl, ap, ◌∙◌, ap₂}
-use Rattle.rows.specs.Limits.{small, allSmall}
+use Rattle.rows.specs.Limits.{small, all_small}
 use Rattle.provers.specs.declared.derived.Derived.{Derived}
-use Rattle.provers.specs.Derivations.{kept, within, allModest, quotients}
+use Rattle.provers.specs.Derivations.{kept, within, all_modest, quotients}
 
 -- a row of parts that may each be missing
 abbrev pub assembled : Option ℤ → Option (List ℤ) → Option (List ℕ) → Option Derived
@@ -11,8 +11,8 @@ assembled (Some b) None ts = None
 assembled (Some b) (Some cs) None = None
 assembled (Some b) (Some cs) (Some ts) = Some (record { coefs = cs; bound = b; times = ts })
 
-pub parts-kept : (b : ℤ) (cs : List ℤ) (ts : List ℕ) → assembled (kept small b) (kept allSmall cs) (kept allModest ts) ≡ kept within (record { coefs = cs; bound = b; times = ts })
-parts-kept b cs ts = by (small b) (allSmall cs) (allModest ts)
+pub parts-kept : (b : ℤ) (cs : List ℤ) (ts : List ℕ) → assembled (kept small b) (kept all_small cs) (kept all_modest ts) ≡ kept within (record { coefs = cs; bound = b; times = ts })
+parts-kept b cs ts = by (small b) (all_small cs) (all_modest ts)
   where
     by : (x y z : Bool) → assembled (cond x (Some b) None) (cond y (Some cs) None) (cond z (Some ts) None) ≡ cond ((x && y) && z) (Some (record { coefs = cs; bound = b; times = ts })) None
     by false y z = refl

@@ -4,33 +4,33 @@ use Rattle.std.specs.List.{range_with_len, flat_map}
 use Rattle.std.proofs.lemmas.List.{drop_more, drop_all}
 use Rattle.rows.specs.declared.row.Row.{Row}
 use Rattle.provers.specs.declared.derived.Derived.{Derived}
-use Rattle.provers.specs.Elimination.{bind, pushAll, fact_of, goalOf, originals, without, withoutAll, from}
+use Rattle.provers.specs.Elimination.{bind, push_all, fact_of, goal_of, originals, without, without_all, from}
 
 -- what stands past the end of a list of rows
 abbrev pub blank : Derived
 blank = record { coefs = []; bound = pos 0; times = [] }
 
-pub push-append : (rows : List Derived) (xs ys : List (Option Derived)) → pushAll rows (xs ++ ys) ≡ bind (pushAll rows xs) (λ rs. pushAll rs ys)
-unfolding pushAll
+pub push-append : (rows : List Derived) (xs ys : List (Option Derived)) → push_all rows (xs ++ ys) ≡ bind (push_all rows xs) (λ rs. push_all rs ys)
+unfolding push_all
 push-append rows [] ys = refl
 push-append rows (None ∷ xs) ys = refl
 push-append rows (Some r ∷ xs) ys =
-    elim (ltb (length rows) 128) as (λ b. cond b (pushAll (rows ++ r ∷ []) (xs ++ ys)) None ≡ bind (cond b (pushAll (rows ++ r ∷ []) xs) None) (λ rs. pushAll rs ys))
+    elim (ltb (length rows) 128) as (λ b. cond b (push_all (rows ++ r ∷ []) (xs ++ ys)) None ≡ bind (cond b (push_all (rows ++ r ∷ []) xs) None) (λ rs. push_all rs ys))
     [ true ↦ push-append (rows ++ r ∷ []) xs ys | false ↦ refl ]
 
 module _ (f : Derived → List (Option Derived)) (a : List Derived) (xs : List Derived) (i : ℕ) where
-  one : i < length xs → pushAll a (flat_map f (drop i xs)) ≡ bind (pushAll a (f (get_or xs i blank))) (λ rs. pushAll rs (flat_map f (drop (i + 1) xs)))
-  one h = ap (λ l. pushAll a (flat_map f l)) (drop_more xs i blank h) ∙ push-append a (f (get_or xs i blank)) (flat_map f (drop (i + 1) xs))
+  one : i < length xs → push_all a (flat_map f (drop i xs)) ≡ bind (push_all a (f (get_or xs i blank))) (λ rs. push_all rs (flat_map f (drop (i + 1) xs)))
+  one h = ap (λ l. push_all a (flat_map f l)) (drop_more xs i blank h) ∙ push-append a (f (get_or xs i blank)) (flat_map f (drop (i + 1) xs))
 
-  pub turn_on : (b : List Derived) → i < length xs → Some b ≡ pushAll a (f (get_or xs i blank)) → pushAll a (flat_map f (drop i xs)) ≡ pushAll b (flat_map f (drop (i + 1) xs))
-  turn_on b h k = one h ∙ ap (λ o. bind o (λ rs. pushAll rs (flat_map f (drop (i + 1) xs)))) (sym k)
+  pub turn_on : (b : List Derived) → i < length xs → Some b ≡ push_all a (f (get_or xs i blank)) → push_all a (flat_map f (drop i xs)) ≡ push_all b (flat_map f (drop (i + 1) xs))
+  turn_on b h k = one h ∙ ap (λ o. bind o (λ rs. push_all rs (flat_map f (drop (i + 1) xs)))) (sym k)
 
-  pub turn-off : i < length xs → None ≡ pushAll a (f (get_or xs i blank)) → pushAll a (flat_map f (drop i xs)) ≡ None
-  turn-off h k = one h ∙ ap (λ o. bind o (λ rs. pushAll rs (flat_map f (drop (i + 1) xs)))) (sym k)
+  pub turn-off : i < length xs → None ≡ push_all a (f (get_or xs i blank)) → push_all a (flat_map f (drop i xs)) ≡ None
+  turn-off h k = one h ∙ ap (λ o. bind o (λ rs. push_all rs (flat_map f (drop (i + 1) xs)))) (sym k)
 
-  pub turn_end : length xs ≤ i → pushAll a (flat_map f (drop i xs)) ≡ Some a
-  unfolding pushAll
-  turn_end h = ap (λ l. pushAll a (flat_map f l)) (drop_all i xs h)
+  pub turn_end : length xs ≤ i → push_all a (flat_map f (drop i xs)) ≡ Some a
+  unfolding push_all
+  turn_end h = ap (λ l. push_all a (flat_map f l)) (drop_all i xs h)
 
 from_more : (q : ℕ) → q < 16 → from q ≡ q ∷ from (q + 1)
 unfolding from
@@ -39,34 +39,34 @@ from_more q h =
     ap (range_with_len q) e
 
 module _ (q : ℕ) (rows : List Derived) where
-  pub without_more : q < 16 → withoutAll (from q) rows ≡ bind (without q rows) (withoutAll (from (q + 1)))
-  unfolding withoutAll
-  without_more h = ap (λ l. withoutAll l rows) (from_more q h)
+  pub without_more : q < 16 → without_all (from q) rows ≡ bind (without q rows) (without_all (from (q + 1)))
+  unfolding without_all
+  without_more h = ap (λ l. without_all l rows) (from_more q h)
 
-  pub leave-on : (left : List Derived) → q < 16 → Some left ≡ without q rows → withoutAll (from q) rows ≡ withoutAll (from (q + 1)) left
-  leave-on left h k = without_more h ∙ ap (λ o. bind o (withoutAll (from (q + 1)))) (sym k)
+  pub leave-on : (left : List Derived) → q < 16 → Some left ≡ without q rows → without_all (from q) rows ≡ without_all (from (q + 1)) left
+  leave-on left h k = without_more h ∙ ap (λ o. bind o (without_all (from (q + 1)))) (sym k)
 
-  pub leave-off : q < 16 → None ≡ without q rows → withoutAll (from q) rows ≡ None
-  leave-off h k = without_more h ∙ ap (λ o. bind o (withoutAll (from (q + 1)))) (sym k)
+  pub leave-off : q < 16 → None ≡ without q rows → without_all (from q) rows ≡ None
+  leave-off h k = without_more h ∙ ap (λ o. bind o (without_all (from (q + 1)))) (sym k)
 
-  pub leave-end : 16 ≤ q → withoutAll (from q) rows ≡ Some rows
-  unfolding withoutAll from
+  pub leave-end : 16 ≤ q → without_all (from q) rows ≡ Some rows
+  unfolding without_all from
   leave-end h =
       let e : 16 - q ≡ 0 = omega arith in
-      ap (λ n. withoutAll (range_with_len q n) rows) e
+      ap (λ n. without_all (range_with_len q n) rows) e
 
 module _ (a : List Derived) (facts : List Row) (goal : Row) (i : ℕ) where
-  one-fact : (r : Row) → i < length facts → r ≡ get_or facts i r → pushAll a (originals i (drop i facts) goal) ≡ bind (pushAll a (fact_of i r)) (λ rs. pushAll rs (originals (i + 1) (drop (i + 1) facts) goal))
+  one-fact : (r : Row) → i < length facts → r ≡ get_or facts i r → push_all a (originals i (drop i facts) goal) ≡ bind (push_all a (fact_of i r)) (λ rs. push_all rs (originals (i + 1) (drop (i + 1) facts) goal))
   unfolding originals
   one-fact r h e =
-      ap (λ l. pushAll a (originals i l goal)) (drop_more facts i r h ∙ ap (λ s. s ∷ drop (i + 1) facts) (sym e)) ∙ push-append a (fact_of i r) (originals (i + 1) (drop (i + 1) facts) goal)
+      ap (λ l. push_all a (originals i l goal)) (drop_more facts i r h ∙ ap (λ s. s ∷ drop (i + 1) facts) (sym e)) ∙ push-append a (fact_of i r) (originals (i + 1) (drop (i + 1) facts) goal)
 
-  pub fact-on : (b : List Derived) (r : Row) → i < length facts → r ≡ get_or facts i r → Some b ≡ pushAll a (fact_of i r) → pushAll a (originals i (drop i facts) goal) ≡ pushAll b (originals (i + 1) (drop (i + 1) facts) goal)
-  fact-on b r h e k = one-fact r h e ∙ ap (λ o. bind o (λ rs. pushAll rs (originals (i + 1) (drop (i + 1) facts) goal))) (sym k)
+  pub fact-on : (b : List Derived) (r : Row) → i < length facts → r ≡ get_or facts i r → Some b ≡ push_all a (fact_of i r) → push_all a (originals i (drop i facts) goal) ≡ push_all b (originals (i + 1) (drop (i + 1) facts) goal)
+  fact-on b r h e k = one-fact r h e ∙ ap (λ o. bind o (λ rs. push_all rs (originals (i + 1) (drop (i + 1) facts) goal))) (sym k)
 
-  pub fact-off : (r : Row) → i < length facts → r ≡ get_or facts i r → None ≡ pushAll a (fact_of i r) → pushAll a (originals i (drop i facts) goal) ≡ None
-  fact-off r h e k = one-fact r h e ∙ ap (λ o. bind o (λ rs. pushAll rs (originals (i + 1) (drop (i + 1) facts) goal))) (sym k)
+  pub fact-off : (r : Row) → i < length facts → r ≡ get_or facts i r → None ≡ push_all a (fact_of i r) → push_all a (originals i (drop i facts) goal) ≡ None
+  fact-off r h e k = one-fact r h e ∙ ap (λ o. bind o (λ rs. push_all rs (originals (i + 1) (drop (i + 1) facts) goal))) (sym k)
 
-  pub fact-end : length facts ≤ i → pushAll a (originals i (drop i facts) goal) ≡ pushAll a (goalOf i goal)
+  pub fact-end : length facts ≤ i → push_all a (originals i (drop i facts) goal) ≡ push_all a (goal_of i goal)
   unfolding originals
-  fact-end h = ap (λ l. pushAll a (originals i l goal)) (drop_all i facts h)
+  fact-end h = ap (λ l. push_all a (originals i l goal)) (drop_all i facts h)

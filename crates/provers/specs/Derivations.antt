@@ -9,11 +9,11 @@ use Rattle.rows.specs.Meaning.{coef}
 use Rattle.rows.specs.Rows.{row_of}
 use Rattle.provers.specs.declared.derived.Derived.{Derived}
 
-abbrev pub coefAt : ℕ → Derived → ℤ
-coefAt j d = slice_index_or d.coefs j (pos 0)
+abbrev pub coef_at : ℕ → Derived → ℤ
+coef_at j d = slice_index_or d.coefs j (pos 0)
 
-abbrev pub timesAt : ℕ → Derived → ℕ
-timesAt i d = slice_index d.times i
+abbrev pub times_at : ℕ → Derived → ℕ
+times_at i d = slice_index d.times i
 
 -- the i-th of the facts and the negated goal: once itself
 abbrev pub original : ℕ → Row → Derived
@@ -30,9 +30,9 @@ blend a b x y = (pos a *ℤ x) +ℤ (pos b *ℤ y)
 -- the same of two rows
 abbrev pub blended : ℕ → ℕ → Derived → Derived → Derived
 blended a b p m = record {
-  coefs = map (λ j. blend a b (coefAt j p) (coefAt j m)) (range_with_len 0 16);
+  coefs = map (λ j. blend a b (coef_at j p) (coef_at j m)) (range_with_len 0 16);
   bound = blend a b p.bound m.bound;
-  times = map (λ i. a * timesAt i p + b * timesAt i m) (range_with_len 0 25);
+  times = map (λ i. a * times_at i p + b * times_at i m) (range_with_len 0 25);
 }
 
 -- the size divided, with the sign put back
@@ -50,13 +50,13 @@ quotients g cs b ts = record { coefs = map (quotient g) cs; bound = quotient g b
 abbrev pub modest : ℕ → Bool
 modest n = nat_le n 1000000
 
-unfoldable pub allModest : List ℕ → Bool
-allModest [] = true
-allModest (n ∷ ns) = modest n && allModest ns
+unfoldable pub all_modest : List ℕ → Bool
+all_modest [] = true
+all_modest (n ∷ ns) = modest n && all_modest ns
 
 -- the limits of a row and of multipliers
 abbrev pub within : Derived → Bool
-within d = fits d.coefs d.bound && allModest d.times
+within d = fits d.coefs d.bound && all_modest d.times
 
 -- what passes a test
 abbrev pub kept : {X : Type 0} → (X → Bool) → X → Option X
@@ -68,4 +68,4 @@ lowest d = quotients (divisor_of d.times) d.coefs d.bound d.times
 
 -- p times the size of m's coefficient of q plus m times that of p's, which leaves 0 there if their signs differ
 unfoldable pub combine : ℕ → Derived → Derived → Option Derived
-combine q p m = kept within (lowest (blended (unsigned_abs (coefAt q m)) (unsigned_abs (coefAt q p)) p m))
+combine q p m = kept within (lowest (blended (unsigned_abs (coef_at q m)) (unsigned_abs (coef_at q p)) p m))

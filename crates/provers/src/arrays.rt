@@ -1,7 +1,7 @@
 ghost use Rattle.std.specs.Prelude.{◌≡◌, ◌+◌, ◌*◌, ◌/◌, ◌<◌, ◌≤◌, map, pos, slice_index, slice_index_or};
 ghost use Rattle.std.specs.List.{range_with_len};
-ghost use Rattle.rows.specs.Limits.{allSmall};
-ghost use Rattle.provers.specs.Derivations.{blend, quotient, kept, allModest};
+ghost use Rattle.rows.specs.Limits.{all_small};
+ghost use Rattle.provers.specs.Derivations.{blend, quotient, kept, all_modest};
 
 use crate::derived::MULTIPLIERS;
 use crate::numbers::{blend, blend_count, divide, divide_count};
@@ -31,7 +31,7 @@ pub(crate) fn blend_times(a: u32, xs: &[u32; 25], b: u32, ys: &[u32; 25]) -> [u6
 
 pub(crate) fn divide_coefs(g: u64, xs: &[i64; 16]) -> Option<[i32; 16]>
     requires { 0 < g }
-    ensures { result ≡ kept allSmall (map (quotient g) xs.now) }
+    ensures { result ≡ kept all_small (map (quotient g) xs.now) }
 {
     let mut quotients = [0i32; 16];
     for j in 0..QUANTITIES {
@@ -42,7 +42,7 @@ pub(crate) fn divide_coefs(g: u64, xs: &[i64; 16]) -> Option<[i32; 16]>
 
 pub(crate) fn divide_times(g: u64, xs: &[u64; 25]) -> Option<[u32; 25]>
     requires { 0 < g }
-    ensures { result ≡ kept allModest (map (λ n. n / g) xs.now) }
+    ensures { result ≡ kept all_modest (map (λ n. n / g) xs.now) }
 {
     let mut quotients = [0u32; 25];
     for i in 0..MULTIPLIERS {

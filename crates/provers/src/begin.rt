@@ -2,7 +2,7 @@ ghost use Rattle.std.specs.Prelude.{◌≡◌, ◌<◌, ◌≤◌, [], map, leng
 ghost use Rattle.std.specs.List.{range_with_len};
 ghost use Rattle.rows.specs.Meaning.{coef};
 ghost use Rattle.provers.specs.Derivations.{original, negation};
-ghost use Rattle.provers.specs.Elimination.{pushAll, fact_of, goalOf, originals};
+ghost use Rattle.provers.specs.Elimination.{push_all, fact_of, goal_of, originals};
 ghost use Rattle.provers.specs.WorkLists.{entries, answered};
 
 use crate::derived::Derived;
@@ -43,7 +43,7 @@ fn negation(row: &Row) -> Option<Row>
 // The fact, if it is of kind at most.
 fn push_fact(i: usize, fact: &Row, into: &mut WorkList) -> Option<()>
     requires { i < 25 }
-    ensures { answered result (entries into.new) ≡ pushAll (entries into.old) (fact_of i fact.now) }
+    ensures { answered result (entries into.new) ≡ push_all (entries into.old) (fact_of i fact.now) }
 {
     match fact.kind() {
         Kind::AtMost => into.push(original(i, fact)),
@@ -53,7 +53,7 @@ fn push_fact(i: usize, fact: &Row, into: &mut WorkList) -> Option<()>
 
 fn push_goal(i: usize, goal: &Row, into: &mut WorkList) -> Option<()>
     requires { i < 25 }
-    ensures { answered result (entries into.new) ≡ pushAll (entries into.old) (goalOf i goal.now) }
+    ensures { answered result (entries into.new) ≡ push_all (entries into.old) (goal_of i goal.now) }
 {
     let negated = negation(goal)?;
     into.push(original(i, &negated))
@@ -62,7 +62,7 @@ fn push_goal(i: usize, goal: &Row, into: &mut WorkList) -> Option<()>
 // Puts the facts of kind at most and the negated goal on the list.
 pub(crate) fn begin(question: Question<'_>, into: &mut WorkList) -> Option<()>
     requires { length question.facts.now ≤ 24 }
-    ensures { answered result (entries into.new) ≡ pushAll (entries into.old) (originals 0 question.entry.facts.now question.entry.goal.now) }
+    ensures { answered result (entries into.new) ≡ push_all (entries into.old) (originals 0 question.entry.facts.now question.entry.goal.now) }
 {
     for (i, fact) in question.facts.iter().enumerate() {
         push_fact(i, fact, into)?;

@@ -1,5 +1,5 @@
 ghost use Rattle.std.specs.Prelude.{◌≡◌, ◌<◌, pos, ◌<ℤ◌};
-ghost use Rattle.provers.specs.Derivations.{coefAt, quotients, within, kept, combine};
+ghost use Rattle.provers.specs.Derivations.{coef_at, quotients, within, kept, combine};
 
 use crate::arrays::{blend_coefs, blend_times, divide_coefs, divide_times};
 use crate::derived::Derived;
@@ -24,7 +24,7 @@ fn reduce(g: u64, coefs: &[i64; 16], bound: i64, times: &[u64; 25]) -> Option<De
 // The row without q that follows from p, which is positive there, and m, which is negative there.
 pub(crate) fn combined(q: usize, p: &Derived, m: &Derived) -> Option<Derived>
     requires quantity { q < 16 }
-    requires positive { pos 0 <ℤ coefAt q p.now }
+    requires positive { pos 0 <ℤ coef_at q p.now }
     ensures { result ≡ combine q p.now m.now }
 {
     let a = m.coefs[q].unsigned_abs();

@@ -1,5 +1,5 @@
 ghost use Rattle.std.specs.Prelude.{[], if◌then◌else◌, Some, None};
-ghost use Rattle.rows.specs.Questions.{wellShaped};
+ghost use Rattle.rows.specs.Questions.{well_shaped};
 ghost use Rattle.std.proofs.Common.{rules};
 
 use crate::prover::Prover;
@@ -10,7 +10,7 @@ use rows::Question;
 pub struct Empty;
 
 impl Prover for Empty {
-    ghost proposal = { λ _ facts goal. (if wellShaped facts goal then Some [] else None) };
+    ghost proposal = { λ _ facts goal. (if well_shaped facts goal then Some [] else None) };
 
     ghost short = { Prim.search rules };
 

@@ -1,7 +1,7 @@
 ghost use Rattle.std.specs.Prelude.{◌≡◌, ◌≤◌, length};
-ghost use Rattle.provers.specs.Elimination.{refutation, fourierMotzkin};
+ghost use Rattle.provers.specs.Elimination.{refutation, fourier_motzkin};
 ghost use Rattle.std.proofs.lemmas.Bool.{and_parts, leb-true};
-ghost use Rattle.rows.specs.Questions.{wellShaped};
+ghost use Rattle.rows.specs.Questions.{well_shaped};
 ghost use Rattle.provers.specs.Lengths.{short-if};
 
 use crate::begin::begin;
@@ -27,9 +27,9 @@ fn refutation(question: Question<'_>) -> Option<[u32; 25]>
 pub struct FourierMotzkin;
 
 impl Prover for FourierMotzkin {
-    ghost proposal = { λ _. fourierMotzkin };
+    ghost proposal = { λ _. fourier_motzkin };
 
-    ghost short = { λ s facts goal. short-if (length facts) (wellShaped facts goal) (refutation facts goal) (λ e. leb-true _ _ (and_parts _ _ e).0) };
+    ghost short = { λ s facts goal. short-if (length facts) (well_shaped facts goal) (refutation facts goal) (λ e. leb-true _ _ (and_parts _ _ e).0) };
 
     fn ask(&self, question: Question<'_>, buffer: &mut [u32]) -> Option<usize> {
         if !question.well_shaped() {

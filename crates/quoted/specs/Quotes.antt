@@ -7,13 +7,13 @@ use Rattle.std.specs.List.{slice_get}
 use Rattle.rows.specs.declared.row.Row.{Row}
 use Rattle.rows.specs.declared.row.Kind.{Kind}
 use Rattle.rows.specs.Meaning.{value, Holds, Follows}
-use Rattle.rows.specs.Questions.{isAtMost, wellShaped}
+use Rattle.rows.specs.Questions.{is_at_most, well_shaped}
 use Rattle.rows.proofs.Same.{same-coefs, meets-nth}
 use Rattle.rows.proofs.Shapes.{at-most-is}
 use Rattle.domains.specs.declared.fault.Reason.TheVariants.{Shape, Kind as OfKind, Sum}
 use Rattle.domains.specs.Faults.{Good, fault}
 use Rattle.domains.specs.Outcomes.{good-parts}
-use Rattle.quoted.specs.Quoting.{same_numbers, looser, quoteAt, quoted}
+use Rattle.quoted.specs.Quoting.{same_numbers, looser, quote_at, quoted}
 
 same-is : (xs ys : List ℤ) → same_numbers xs ys ≡ true → xs ≡ ys
 same-is [] [] h = refl
@@ -43,10 +43,10 @@ one-is (x ∷ []) h = refl
 one-is (x ∷ y ∷ ys) h = let no : ⊥ = omega arith in absurd no
 
 module _ (facts : List Row) (goal : Row) where
-  quote-sound : (low high : ℤ) (k : ℕ) (o : Option Row) → slice_get facts k ≡ o → isAtMost goal.kind ≡ true → Good (quoteAt o goal) → Follows low high facts goal
+  quote-sound : (low high : ℤ) (k : ℕ) (o : Option Row) → slice_get facts k ≡ o → is_at_most goal.kind ≡ true → Good (quote_at o goal) → Follows low high facts goal
   quote-sound low high k None e a g = absurd g
   quote-sound low high k (Some fact) e a g =
-      let b = good-parts (isAtMost fact.kind) _ OfKind g in
+      let b = good-parts (is_at_most fact.kind) _ OfKind g in
       let l = and_parts (same_numbers fact.coefs goal.coefs) _ (good-parts (looser fact goal) _ Sum b.1).0 in
       record {
         follows = λ q w h.
@@ -61,11 +61,11 @@ module _ (facts : List Row) (goal : Row) where
   pub quoted-sound : (low high : ℤ) (cert : List ℕ) → Good (quoted facts goal cert) → Follows low high facts goal
   quoted-sound low high [] g = absurd g
   quoted-sound low high (k ∷ []) g =
-      let p = good-parts (wellShaped facts goal) _ Shape g in
+      let p = good-parts (well_shaped facts goal) _ Shape g in
       quote-sound low high k (slice_get facts k) refl (and_parts _ _ p.0).1 p.1
   quoted-sound low high (k ∷ l ∷ rest) g = absurd g
 
   -- what the domain answers where it looks at the fact
-  pub quoted-asks : (cert : List ℕ) → length cert ≡ 1 → wellShaped facts goal ≡ true → quoteAt (slice_get facts (slice_index cert 0)) goal ≡ quoted facts goal cert
+  pub quoted-asks : (cert : List ℕ) → length cert ≡ 1 → well_shaped facts goal ≡ true → quote_at (slice_get facts (slice_index cert 0)) goal ≡ quoted facts goal cert
   quoted-asks cert one s =
-      sym (ap (quoted facts goal) (one-is cert one) ∙ ap (λ b. cond b (quoteAt (slice_get facts (slice_index cert 0)) goal) (fault Shape)) s)
+      sym (ap (quoted facts goal) (one-is cert one) ∙ ap (λ b. cond b (quote_at (slice_get facts (slice_index cert 0)) goal) (fault Shape)) s)

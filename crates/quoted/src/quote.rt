@@ -1,5 +1,5 @@
 ghost use Rattle.std.specs.Prelude.{◌≡◌, pos, negsuc};
-ghost use Rattle.quoted.specs.Quoting.{looser, quoteOf, quoted};
+ghost use Rattle.quoted.specs.Quoting.{looser, quote_of, quoted};
 ghost use Rattle.quoted.specs.Quotes.{quoted-sound};
 ghost use Rattle.std.proofs.Common.{rules};
 
@@ -14,7 +14,7 @@ fn is_looser(fact: &Row, goal: &Row) -> bool
 }
 
 fn quote(fact: &Row, goal: &Row) -> Result<(), Fault>
-    ensures { result ≡ quoteOf fact.now goal.now }
+    ensures { result ≡ quote_of fact.now goal.now }
 {
     let Kind::AtMost = fact.kind() else {
         return Err(Fault::new(Reason::Kind));

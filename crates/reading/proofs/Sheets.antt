@@ -3,14 +3,14 @@ use Rattle.std.proofs.Common.{◌≡◌, ℕ, ◌≤◌, List, length, take, Opt
 use Rattle.std.proofs.lemmas.List.{take_all}
 use Rattle.letters.specs.declared.token.Token.{Token}
 use Rattle.grammar.specs.declared.node.Node.{Node}
-use Rattle.grammar.specs.Parsers.{lookIn}
+use Rattle.grammar.specs.Parsers.{look_in}
 use Rattle.syntax.specs.Derives.{DSheet}
-use Rattle.syntax.specs.Weights.{weightOf}
+use Rattle.syntax.specs.Weights.{weight_of}
 use Rattle.syntax.proofs.Weighing.{weighs}
 use Rattle.naming.specs.declared.written.Written.{Written}
-use Rattle.naming.specs.Reaches.{sheetOf}
-use Rattle.naming.specs.Sources.{sheetIn, rulesOf}
-use Rattle.counting.specs.Counts.{countFault, flatFault}
+use Rattle.naming.specs.Reaches.{sheet_of}
+use Rattle.naming.specs.Sources.{sheet_in, rules_of}
+use Rattle.counting.specs.Counts.{count_fault, flat_fault}
 use Rattle.counting.proofs.Flat.{flat-fault}
 use Rattle.resolving.specs.Resolving as Resolving
 use Rattle.resolving.specs.Making.{Small, Fit}
@@ -32,25 +32,25 @@ pub record Same (w : Written) (text : List ℕ) (tokens : List Token) (nodes : L
   pub of-nodes : w.nodes.now ≡ take 16384 nodes
 
 module _ (w : Written) (text : List ℕ) (tokens : List Token) (nodes : List Node) (same : Same w text tokens nodes) where
-  pub same-rules : rulesOf w ≡ sheetIn text tokens nodes
+  pub same-rules : rules_of w ≡ sheet_in text tokens nodes
   same-rules = rw (same.of-text, same.of-tokens, same.of-nodes)
 
-  pub same-sheet : sheetOf w ≡ record { text = text; rules = sheetIn text tokens nodes }
+  pub same-sheet : sheet_of w ≡ record { text = text; rules = sheet_in text tokens nodes }
   same-sheet = ap₂ (λ t rs. record { text = t; rules = rs }) same.of-text same-rules
 
-  pub same-fit : length tokens ≤ 16384 → ((q : ℕ) → Small (lookIn tokens (length text) q)) → Fit w
-  same-fit h f q = subst Small (sym (ap₂ (λ ts e. lookIn ts e q) (same.of-tokens ∙ take_all 16384 tokens h) (ap length same.of-text))) (f q)
+  pub same-fit : length tokens ≤ 16384 → ((q : ℕ) → Small (look_in tokens (length text) q)) → Fit w
+  same-fit h f q = subst Small (sym (ap₂ (λ ts e. look_in ts e q) (same.of-tokens ∙ take_all 16384 tokens h) (ap length same.of-text))) (f q)
 
-  pub same-made : (p : Columns) → RulesMade (sheetOf w) (rulesOf w) p → RulesMade (record { text = text; rules = sheetIn text tokens nodes }) (sheetIn text tokens nodes) p
-  same-made p m = subst (λ rs. RulesMade (record { text = text; rules = sheetIn text tokens nodes }) rs p) same-rules (subst (λ S. RulesMade S (rulesOf w) p) same-sheet m)
+  pub same-made : (p : Columns) → RulesMade (sheet_of w) (rules_of w) p → RulesMade (record { text = text; rules = sheet_in text tokens nodes }) (sheet_in text tokens nodes) p
+  same-made p m = subst (λ rs. RulesMade (record { text = text; rules = sheet_in text tokens nodes }) rs p) same-rules (subst (λ S. RulesMade S (rules_of w) p) same-sheet m)
 
-  pub same-fault : (r : Option ℕ) (p : Columns) → RulesMade (record { text = text; rules = sheetIn text tokens nodes }) (sheetIn text tokens nodes) p → r ≡ flatFault (length w.text.now) (rulesOf w) p.nodes.entries p.conditions.entries → r ≡ countFault (length text) (sheetIn text tokens nodes) (Resolving.sheetOf text (sheetIn text tokens nodes))
+  pub same-fault : (r : Option ℕ) (p : Columns) → RulesMade (record { text = text; rules = sheet_in text tokens nodes }) (sheet_in text tokens nodes) p → r ≡ flat_fault (length w.text.now) (rules_of w) p.nodes.entries p.conditions.entries → r ≡ count_fault (length text) (sheet_in text tokens nodes) (Resolving.sheet_of text (sheet_in text tokens nodes))
   same-fault r p m e =
-      e ∙ ap₂ (λ n rs. flatFault n rs p.nodes.entries p.conditions.entries) (ap length same.of-text) same-rules
-      ∙ flat-fault (length text) (sheetIn text tokens nodes) (Resolving.sheetOf text (sheetIn text tokens nodes)) p.nodes.entries p.conditions.entries m.exprs m.claims
+      e ∙ ap₂ (λ n rs. flat_fault n rs p.nodes.entries p.conditions.entries) (ap length same.of-text) same-rules
+      ∙ flat-fault (length text) (sheet_in text tokens nodes) (Resolving.sheet_of text (sheet_in text tokens nodes)) p.nodes.entries p.conditions.entries m.exprs m.claims
 
-  pub light : length tokens ≤ 16384 → DSheet (lookIn tokens (length text)) (sheetIn text tokens nodes) → weightOf (rulesOf w) ≤ 16384
-  light h d = let e = ap weightOf same-rules in let k = weighs tokens (length text) (sheetIn text tokens nodes) d in omega arith
+  pub light : length tokens ≤ 16384 → DSheet (look_in tokens (length text)) (sheet_in text tokens nodes) → weight_of (rules_of w) ≤ 16384
+  light h d = let e = ap weight_of same-rules in let k = weighs tokens (length text) (sheet_in text tokens nodes) d in omega arith
 
 -- fresh tables have room for all that 16,384 tokens can stand for
 pub ample : (w records lender : ℕ) (p : Columns) → p ≡ fresh records lender → w ≤ 16384 → 4096 ≤ records → Ample w p

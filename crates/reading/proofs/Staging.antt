@@ -6,8 +6,8 @@ use Rattle.std.proofs.lemmas.Bool.{cases_lt, and_parts}
 use Rattle.letters.specs.declared.kind.Kind.TheVariants.{End}
 use Rattle.letters.specs.declared.token.Token.{Token}
 use Rattle.letters.specs.declared.misspelt.Misspelt.{Misspelt}
-use Rattle.letters.specs.Tokens.{tokenOf, bytes_of}
-use Rattle.letters.specs.Cuts.{Cut, cut_of, answer, answerBy, laid}
+use Rattle.letters.specs.Tokens.{token_of, bytes_of}
+use Rattle.letters.specs.Cuts.{Cut, cut_of, answer, answer_by, laid}
 use Rattle.letters.specs.Spelling.{Reads}
 use Rattle.letters.specs.Standing as Standing
 use Rattle.letters.proofs.Places.{reads-stand, spelt-small}
@@ -15,28 +15,28 @@ use Rattle.grammar.specs.declared.node.Node.{Node}
 use Rattle.grammar.specs.declared.unread.Unread.{Unread}
 use Rattle.grammar.specs.declared.unread.Unread.TheVariants.{Full, Fault}
 use Rattle.grammar.specs.Raw as Raw
-use Rattle.grammar.specs.Parsers.{lookIn}
+use Rattle.grammar.specs.Parsers.{look_in}
 use Rattle.grammar.specs.Parsed.{source_of, Parsed}
-use Rattle.grammar.specs.Trees.{rulesTo}
+use Rattle.grammar.specs.Trees.{rules_to}
 use Rattle.grammar.proofs.Parts.{rules-front}
 use Rattle.syntax.specs.Lawful.{OnlySheet, NoSheet, Lawful}
-use Rattle.naming.specs.Sources.{sheetIn}
+use Rattle.naming.specs.Sources.{sheet_in}
 use Rattle.resolving.specs.Making.{Small}
 use Rattle.language.specs.declared.refusal.Refusal.{Refusal}
 use Rattle.records.specs.declared.record.Record.{Record}
-use Rattle.resolving.specs.Resolving.{sheetOf}
+use Rattle.resolving.specs.Resolving.{sheet_of}
 use Rattle.reading.specs.Answers.{Staged, Checked}
 use Rattle.reading.specs.Reading as Reading
-use Rattle.reading.specs.Reading.{in_range, misspelling, misreading, tokensOf, misspelt, no-sheet}
+use Rattle.reading.specs.Reading.{in_range, misspelling, misreading, tokens_of, misspelt, no-sheet}
 
-answer_ok : (o : Option Misspelt) (n m : ℕ) → Ok n ≡ answerBy o m → (o ≡ None) × (n ≡ m)
+answer_ok : (o : Option Misspelt) (n m : ℕ) → Ok n ≡ answer_by o m → (o ≡ None) × (n ≡ m)
 answer_ok None n m e = (refl, cc)
 answer_ok (Some w) n m e = cc
 
 pub cut_ok : (c : Cut) (n : ℕ) → Ok n ≡ answer c → (c.fault ≡ None) × (n ≡ length c.tokens)
 cut_ok c n e = answer_ok c.fault n (length c.tokens) e
 
-answer_err : (o : Option Misspelt) (w : Misspelt) (m : ℕ) → Err w ≡ answerBy o m → o ≡ Some w
+answer_err : (o : Option Misspelt) (w : Misspelt) (m : ℕ) → Err w ≡ answer_by o m → o ≡ Some w
 answer_err None w m e = cc
 answer_err (Some v) w m e = cc
 
@@ -58,31 +58,31 @@ pub cut-few : (text : List ℕ) (old all : List Token) (n k : ℕ) → Ok n ≡ 
 cut-few text old all n k e w h = let a = ap length (cut-front text old all n e w) in let b = (cut_ok (cut_of text) n e).1 in omega arith
 
 -- their numerals are small
-pub small : (text : List ℕ) (ts : List Token) → Reads 0 text ts [] → (e q : ℕ) → Small (lookIn ts e q)
+pub small : (text : List ℕ) (ts : List Token) → Reads 0 text ts [] → (e q : ℕ) → Small (look_in ts e q)
 small text ts r e q = elim (cases_lt q (length ts)) [
-  | inl h ↦ let s = All-get_or (Standing.Stands text) ts q (tokenOf End e 0 0) h (reads-stand r) in record { value = spelt-small (get_or ts q (tokenOf End e 0 0)) (bytes_of text (get_or ts q (tokenOf End e 0 0))) s.1 }
-  | inr h ↦ subst Small (sym (get_or_past ts q (tokenOf End e 0 0) h)) (record { value = omega arith })
+  | inl h ↦ let s = All-get_or (Standing.Stands text) ts q (token_of End e 0 0) h (reads-stand r) in record { value = spelt-small (get_or ts q (token_of End e 0 0)) (bytes_of text (get_or ts q (token_of End e 0 0))) s.1 }
+  | inr h ↦ subst Small (sym (get_or_past ts q (token_of End e 0 0) h)) (record { value = omega arith })
 ]
 
 -- the sheet of the nodes that were made
-pub sheet-is : (text : List ℕ) (ts : List Token) (ns : List Node) (k : ℕ) → length ts ≤ 16384 → k ≤ 16384 → k ≤ length ns → sheetIn text ts (take (k - 0) ns) ≡ rulesTo (source_of ts (length text)) k ns
+pub sheet-is : (text : List ℕ) (ts : List Token) (ns : List Node) (k : ℕ) → length ts ≤ 16384 → k ≤ 16384 → k ≤ length ns → sheet_in text ts (take (k - 0) ns) ≡ rules_to (source_of ts (length text)) k ns
 sheet-is text ts ns k h l m =
     let s = source_of ts (length text) in
     let n = length-take-le k ns m in
     let e : take 16384 (take (k - 0) ns) ≡ take k ns = ap (λ j. take 16384 (take j ns)) (let z : k - 0 ≡ k = omega arith in z) ∙ take_all 16384 (take k ns) (omega arith) in
-    ap₂ (λ xs ys. rulesTo (record { tokens = xs; end = length text }) (length ys) ys) (take_all 16384 ts h) e
-    ∙ ap (λ j. rulesTo s j (take k ns)) n
+    ap₂ (λ xs ys. rules_to (record { tokens = xs; end = length text }) (length ys) ys) (take_all 16384 ts h) e
+    ∙ ap (λ j. rules_to s j (take k ns)) n
     ∙ sym (rules-front s k (take k ns) (drop k ns) (omega arith))
-    ∙ ap (rulesTo s k) (take-append-drop k ns)
+    ∙ ap (rules_to s k) (take-append-drop k ns)
 
 pub refused-by-grammar : (text : List ℕ) (low high : ℤ) (records : ℕ) (w : Unread) (ts : List Token) (ns : List Node) (room : ℕ) → in_range low high records ≡ true → (cut_of text).fault ≡ None → ts ≡ (cut_of text).tokens → length ts ≤ room → Parsed (Err w) ts (length text) room ns → Lawful (Err w) ts (length text) ns → Reading.Reads text low high records (Err (misreading w))
 refused-by-grammar text low high records Full ts ns room i c e h p l = absurd (let k = p.said in omega arith)
-refused-by-grammar text low high records (Fault q) ts ns room i c e h p l = no-sheet i c (subst (λ xs. NoSheet (lookIn xs (length text)) q) e l)
+refused-by-grammar text low high records (Fault q) ts ns room i c e h p l = no-sheet i c (subst (λ xs. NoSheet (look_in xs (length text)) q) e l)
 
 -- what names and counts say is the answer, where the stages before them passed
-pub checked-answers : (r : Result ℕ Refusal) (text : List ℕ) (low high : ℤ) (count : ℕ) (sheet : Raw.Sheet) (records : List Record) → in_range low high count ≡ true → count ≡ length records → (cut_of text).fault ≡ None → OnlySheet (tokensOf text) sheet → Checked r text sheet records → Staged r text low high count records
+pub checked-answers : (r : Result ℕ Refusal) (text : List ℕ) (low high : ℤ) (count : ℕ) (sheet : Raw.Sheet) (records : List Record) → in_range low high count ≡ true → count ≡ length records → (cut_of text).fault ≡ None → OnlySheet (tokens_of text) sheet → Checked r text sheet records → Staged r text low high count records
 checked-answers (Ok n) text low high count sheet records i l c o k = record {
-  rules = sheetOf text sheet;
+  rules = sheet_of text sheet;
   reads = Reading.read (subst (λ m. in_range low high m ≡ true) l i) c o k.named k.counted;
   stand = k.stand;
 }

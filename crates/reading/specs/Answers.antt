@@ -4,12 +4,12 @@ use Rattle.language.specs.declared.refusal.Refusal.{Refusal}
 use Rattle.language.specs.declared.refusal.Refusal.TheVariants.{Name, Full}
 use Rattle.language.specs.Tree.{Rule}
 use Rattle.grammar.specs.Raw as Raw
-use Rattle.naming.specs.Faults.{nameFault}
-use Rattle.counting.specs.Counts.{countFault}
-use Rattle.resolving.specs.Resolving.{sheetOf}
+use Rattle.naming.specs.Faults.{name_fault}
+use Rattle.counting.specs.Counts.{count_fault}
+use Rattle.resolving.specs.Resolving.{sheet_of}
 use Rattle.records.specs.declared.record.Record.{Record}
 use Rattle.records.specs.Columns.{zero_record, tables_in, params_in, entries_in}
-use Rattle.records.specs.Trees.{rulesIn}
+use Rattle.records.specs.Trees.{rules_in}
 use Rattle.records.specs.Rules.{RulesStand}
 use Rattle.reading.specs.Reading.{Reads}
 
@@ -17,7 +17,7 @@ use Rattle.reading.specs.Reading.{Reads}
 pub record Stand (records : List Record) (n : ℕ) (rules : List Rule) : Type 0 where
   pub count : n ≡ length rules
   pub stand : RulesStand (tables_in records) (params_in records) 0 (entries_in records n) rules
-  pub reads : rulesIn (tables_in records) (params_in records) (entries_in records n) ≡ rules
+  pub reads : rules_in (tables_in records) (params_in records) (entries_in records n) ≡ rules
 
 -- the rules that the text stands for stand in the records
 pub record Stood (text : List ℕ) (low high : ℤ) (n : ℕ) (records : List Record) : Type 0 where
@@ -37,10 +37,10 @@ Staged (Err r) text low high count records = Reads text low high count (Err r)
 
 -- what names and counts say of a written sheet; where both pass, its rules stand in the records
 pub record Counted (text : List ℕ) (sheet : Raw.Sheet) (n : ℕ) (records : List Record) : Type 0 where
-  pub named : nameFault text sheet ≡ None
-  pub counted : countFault (length text) sheet (sheetOf text sheet) ≡ None
-  pub stand : Stand records n (sheetOf text sheet)
+  pub named : name_fault text sheet ≡ None
+  pub counted : count_fault (length text) sheet (sheet_of text sheet) ≡ None
+  pub stand : Stand records n (sheet_of text sheet)
 
 abbrev pub Checked : Result ℕ Refusal → List ℕ → Raw.Sheet → List Record → Type 0
 Checked (Ok n) text sheet records = Counted text sheet n records
-Checked (Err r) text sheet records = (place : ℕ) × (((r ≡ Name place) × (nameFault text sheet ≡ Some place)) ⊎ ((r ≡ Full place) × (nameFault text sheet ≡ None) × (countFault (length text) sheet (sheetOf text sheet) ≡ Some place)))
+Checked (Err r) text sheet records = (place : ℕ) × (((r ≡ Name place) × (name_fault text sheet ≡ Some place)) ⊎ ((r ≡ Full place) × (name_fault text sheet ≡ None) × (count_fault (length text) sheet (sheet_of text sheet) ≡ Some place)))

@@ -1,7 +1,7 @@
 ghost use Rattle.std.specs.Prelude.{◌≡◌, ℕ, ◌≤◌, length};
 ghost use Rattle.reading.specs.Reading.{in_range, misspelling, misreading};
-ghost use Rattle.grammar.specs.Parsers.{lookIn};
-ghost use Rattle.naming.specs.Sources.{sheetIn};
+ghost use Rattle.grammar.specs.Parsers.{look_in};
+ghost use Rattle.naming.specs.Sources.{sheet_in};
 ghost use Rattle.syntax.specs.Derives.{DSheet};
 ghost use Rattle.resolving.specs.Making.{Small};
 ghost use Rattle.reading.specs.Answers.{Answer, Staged, Checked};
@@ -52,11 +52,11 @@ fn names_then_counts(
     raw: &[Raw],
     records: &mut [Record],
 ) -> Result<usize, Refusal>
-    requires small { (q : ℕ) → Small (lookIn tokens.now (length text.now) q) }
+    requires small { (q : ℕ) → Small (look_in tokens.now (length text.now) q) }
     requires few { length tokens.now ≤ 16384 }
-    requires derived { DSheet (lookIn tokens.now (length text.now)) (sheetIn text.now tokens.now raw.now) }
+    requires derived { DSheet (look_in tokens.now (length text.now)) (sheet_in text.now tokens.now raw.now) }
     requires ample { 4096 ≤ length records.old }
-    ensures { Checked result text.now (sheetIn text.now tokens.now raw.now) records.new }
+    ensures { Checked result text.now (sheet_in text.now tokens.now raw.now) records.new }
 {
     if let Some(place) = name_fault(text, tokens, raw) {
         return Err(Refusal::Name { place });

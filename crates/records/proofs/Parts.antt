@@ -3,15 +3,15 @@ use Rattle.std.proofs.Common.{◌≡◌, ℕ, zero, suc, ◌<◌, ◌≤◌, Boo
 use Rattle.std.proofs.lemmas.Option.{slice_get-get_or, slice_get_past}
 use Rattle.std.specs.List.{slice_get}
 use Rattle.records.specs.declared.node.Node.{Node}
-use Rattle.records.specs.Trees.{Reader, Part, no_part, grown, nodeIn, fuelled, partIn}
+use Rattle.records.specs.Trees.{Reader, Part, no_part, grown, node_in, fuelled, part_in}
 
-pub node_at : (ns : List Node) (top at : ℕ) (d : Node) → at < top → at < length ns → Some (get_or ns at d) ≡ nodeIn top ns at
+pub node_at : (ns : List Node) (top at : ℕ) (d : Node) → at < top → at < length ns → Some (get_or ns at d) ≡ node_in top ns at
 node_at ns top at d h k = sym (ap (λ b. cond b (slice_get ns at) None) (lt-ltb at top h) ∙ slice_get-get_or ns at d k)
 
-pub node-above : (ns : List Node) (top at : ℕ) → top ≤ at → None ≡ nodeIn top ns at
+pub node-above : (ns : List Node) (top at : ℕ) → top ≤ at → None ≡ node_in top ns at
 node-above ns top at h = sym (ap (λ b. cond b (slice_get ns at) None) (le-ltb at top h))
 
-pub node-past : (ns : List Node) (top at : ℕ) → length ns ≤ at → None ≡ nodeIn top ns at
+pub node-past : (ns : List Node) (top at : ℕ) → length ns ≤ at → None ≡ node_in top ns at
 node-past ns top at h = go (ltb at top)
   where
     go : (b : Bool) → None ≡ cond b (slice_get ns at) None
@@ -36,14 +36,14 @@ module _ (cs : Reader) where
   stable (suc f) zero ns p h k = absurd (omega arith)
   stable (suc f) (suc g) ns p h k = grown-same _ _ (same-below (fuelled cs f ns) (fuelled cs g ns) p (λ q l. stable f g ns q (omega arith) (omega arith))) (slice_get ns p)
 
-  pub step : (top : ℕ) (ns : List Node) (at : ℕ) → partIn cs top ns at ≡ grown cs (partIn cs at ns) (nodeIn top ns at)
-  unfolding partIn fuelled
+  pub step : (top : ℕ) (ns : List Node) (at : ℕ) → part_in cs top ns at ≡ grown cs (part_in cs at ns) (node_in top ns at)
+  unfolding part_in fuelled
   step top ns at = go (ltb at top)
     where
-      go : (b : Bool) → cond b (fuelled cs (suc at) ns at) no_part ≡ grown cs (partIn cs at ns) (cond b (slice_get ns at) None)
+      go : (b : Bool) → cond b (fuelled cs (suc at) ns at) no_part ≡ grown cs (part_in cs at ns) (cond b (slice_get ns at) None)
       go true = grown-same _ _ (same-below (fuelled cs at ns) (λ q. fuelled cs (suc q) ns q) at (λ q l. stable at (suc q) ns q l (omega arith))) (slice_get ns at)
       go false = refl
 
   -- the same, where the node is known
-  pub step-at : (top : ℕ) (ns : List Node) (at : ℕ) (o : Option Node) → o ≡ nodeIn top ns at → partIn cs top ns at ≡ grown cs (partIn cs at ns) o
-  step-at top ns at o e = step top ns at ∙ ap (grown cs (partIn cs at ns)) (sym e)
+  pub step-at : (top : ℕ) (ns : List Node) (at : ℕ) (o : Option Node) → o ≡ node_in top ns at → part_in cs top ns at ≡ grown cs (part_in cs at ns) o
+  step-at top ns at o e = step top ns at ∙ ap (grown cs (part_in cs at ns)) (sym e)

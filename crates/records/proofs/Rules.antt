@@ -4,8 +4,8 @@ use Rattle.std.proofs.lemmas.List.{length-append}
 use Rattle.language.specs.Tree.{Rule}
 use Rattle.records.specs.declared.entry.Param.{Param}
 use Rattle.records.specs.declared.entry.Entry.{Entry}
-use Rattle.records.specs.Tables.{Tables, stretch, paramOf}
-use Rattle.records.specs.Trees.{readerOf, exprIn, ruleIn, rulesIn}
+use Rattle.records.specs.Tables.{Tables, stretch, param_of}
+use Rattle.records.specs.Trees.{reader_of, expr_in, rule_in, rules_in}
 use Rattle.records.specs.Standing.{Grows}
 use Rattle.records.specs.Rules.{RuleStands, RulesStand}
 use Rattle.records.proofs.Stretches.{stays}
@@ -15,7 +15,7 @@ pub rule-on : (s t : Tables) (ps qs : List Param) (lo : ℕ) (e : Entry) (r : Ru
 rule-on s t ps qs lo e r g m x = record {
   place = x.place;
   within = omega (arith, x.within, ap length m.1, length-append ps m.0);
-  params = ap (λ l. map paramOf (stretch l e.params.from e.params.to)) m.1 ∙ ap (map paramOf) (stays ps m.0 e.params.from e.params.to x.within) ∙ x.params;
+  params = ap (λ l. map param_of (stretch l e.params.from e.params.to)) m.1 ∙ ap (map param_of) (stays ps m.0 e.params.from e.params.to x.within) ∙ x.params;
   needs = listed-on s t _ _ _ g x.needs;
   gives = listed-on s t _ _ _ g x.gives;
   below = omega (arith, x.below, ap length g.nodes.1, length-append s.nodes g.nodes.0);
@@ -45,13 +45,13 @@ rules-length t ps lo [] (r ∷ rs) x = absurd x
 rules-length t ps lo (e ∷ es) [] x = absurd x
 rules-length t ps lo (e ∷ es) (r ∷ rs) x = let h = rules-length t ps (suc e.body) es rs x.1 in omega arith
 
-pub reads-rule : (t : Tables) (ps : List Param) (lo : ℕ) (e : Entry) (r : Rule) → RuleStands t ps lo e r → ruleIn t ps e ≡ r
+pub reads-rule : (t : Tables) (ps : List Param) (lo : ℕ) (e : Entry) (r : Rule) → RuleStands t ps lo e r → rule_in t ps e ≡ r
 reads-rule t ps lo e r x =
-    ap₂ (λ p a. record { place = p; params = a; needs = readerOf t e.needs.from e.needs.to; gives = readerOf t e.gives.from e.gives.to; body = exprIn t (length t.nodes) e.body }) x.place x.params
-    ∙ ap₂ (λ n g. record { place = r.place; params = r.params; needs = n; gives = g; body = exprIn t (length t.nodes) e.body }) x.needs.reads x.gives.reads
+    ap₂ (λ p a. record { place = p; params = a; needs = reader_of t e.needs.from e.needs.to; gives = reader_of t e.gives.from e.gives.to; body = expr_in t (length t.nodes) e.body }) x.place x.params
+    ∙ ap₂ (λ n g. record { place = r.place; params = r.params; needs = n; gives = g; body = expr_in t (length t.nodes) e.body }) x.needs.reads x.gives.reads
     ∙ ap (λ b. record { place = r.place; params = r.params; needs = r.needs; gives = r.gives; body = b }) (reads-expr t (length t.nodes) lo e.body r.body x.below x.body)
 
-pub reads-rules : (t : Tables) (ps : List Param) (lo : ℕ) (es : List Entry) (rs : List Rule) → RulesStand t ps lo es rs → rulesIn t ps es ≡ rs
+pub reads-rules : (t : Tables) (ps : List Param) (lo : ℕ) (es : List Entry) (rs : List Rule) → RulesStand t ps lo es rs → rules_in t ps es ≡ rs
 reads-rules t ps lo [] [] x = refl
 reads-rules t ps lo [] (r ∷ rs) x = absurd x
 reads-rules t ps lo (e ∷ es) [] x = absurd x

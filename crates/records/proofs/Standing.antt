@@ -7,8 +7,8 @@ use Rattle.language.specs.Tree.{Expr, Args}
 use Rattle.records.specs.declared.node.Node.{Node}
 use Rattle.records.specs.declared.condition.Condition.{Condition}
 use Rattle.records.specs.declared.condition.Item.{Item}
-use Rattle.records.specs.Tables.{Tables, stretch, item_of, side_in, conditionIn, conditionsIn}
-use Rattle.records.specs.Trees.{Part, grown, nodeIn, partIn, readerOf, exprIn, argsIn}
+use Rattle.records.specs.Tables.{Tables, stretch, item_of, side_in, condition_in, conditions_in}
+use Rattle.records.specs.Trees.{Part, grown, node_in, part_in, reader_of, expr_in, args_in}
 use Rattle.records.specs.Standing.{SidesIn, Listed, Stands, num, name, calc, read, call, bind, test, put, claim, ArgsStand, end, value, lent, Grows}
 use Rattle.records.proofs.Stretches.{stays}
 use Rattle.records.proofs.Parts.{step-at}
@@ -51,11 +51,11 @@ side-stays : (items more : List Item) (from to : ℕ) → to ≤ length items �
 unfolding side_in
 side-stays items more from to k = ap (map item_of) (stays items more from to k)
 
-condition-stays : (items more : List Item) (c : Condition) → SidesIn (length items) c → conditionIn (items ++ more) c ≡ conditionIn items c
+condition-stays : (items more : List Item) (c : Condition) → SidesIn (length items) c → condition_in (items ++ more) c ≡ condition_in items c
 condition-stays items more c h =
     ap₂ (λ l r. record { place = c.place; left = l; comparison = c.comparison; right = r }) (side-stays items more c.from c.middle h.0) (side-stays items more c.middle c.to h.1)
 
-pub conditions-stay : (items more : List Item) (cs : List Condition) → AllByRecursion (SidesIn (length items)) cs → map (conditionIn (items ++ more)) cs ≡ map (conditionIn items) cs
+pub conditions-stay : (items more : List Item) (cs : List Condition) → AllByRecursion (SidesIn (length items)) cs → map (condition_in (items ++ more)) cs ≡ map (condition_in items) cs
 conditions-stay items more [] h = refl
 conditions-stay items more (c ∷ cs) h = ap₂ ◌∷◌ (condition-stays items more c h.0) (conditions-stay items more cs h.1)
 
@@ -67,7 +67,7 @@ pub sides-in : (m n : ℕ) → m ≤ n → (cs : List Condition) → AllByRecurs
 sides-in m n h cs a = All-weaker (SidesIn m) (SidesIn n) (λ c k. (omega (arith, k.0), omega (arith, k.1))) cs a
 
 pub listed-on : (s t : Tables) (from to : ℕ) (cs : List Tree.Condition) → Grows s t → Listed s from to cs → Listed t from to cs
-unfolding conditionsIn
+unfolding conditions_in
 listed-on s t from to cs g l =
     let is = g.items.0 in let ds = g.conditions.0 in
     let si : s.items ++ is ≡ t.items = sym g.items.1 in
@@ -76,7 +76,7 @@ listed-on s t from to cs g l =
     record {
       within = omega (arith, l.within, longer s.conditions ds, ap length sc);
       sides = subst (λ xs. AllByRecursion (SidesIn (length t.items)) xs) (sym st) (sides-in (length s.items) (length t.items) (omega (arith, longer s.items is, ap length si)) _ l.sides);
-      reads = ap (map (conditionIn t.items)) st ∙ ap (λ xs. map (conditionIn xs) (stretch s.conditions from to)) (sym si) ∙ conditions-stay s.items is _ l.sides ∙ l.reads;
+      reads = ap (map (condition_in t.items)) st ∙ ap (λ xs. map (condition_in xs) (stretch s.conditions from to)) (sym si) ∙ conditions-stay s.items is _ l.sides ∙ l.reads;
     }
 
 at_on : (s t : Tables) (at : ℕ) (n : Node) → Grows s t → slice_get s.nodes at ≡ Some n → slice_get t.nodes at ≡ Some n
@@ -136,17 +136,17 @@ mutual
   args-wider t l lo at xs k (lent h b y) = lent h b (args-wider t l _ _ _ k y)
 
 -- what stands is what is read
-node-below : (t : Tables) (top at : ℕ) (n : Node) → at < top → slice_get t.nodes at ≡ Some n → Some n ≡ nodeIn top t.nodes at
+node-below : (t : Tables) (top at : ℕ) (n : Node) → at < top → slice_get t.nodes at ≡ Some n → Some n ≡ node_in top t.nodes at
 node-below t top at n h e = sym (ap (λ b. cond b (slice_get t.nodes at) None) (lt-ltb at top h) ∙ e)
 
-expr-from : (t : Tables) (top at : ℕ) (n : Node) → at < top → slice_get t.nodes at ≡ Some n → exprIn t top at ≡ (grown (readerOf t) (partIn (readerOf t) at t.nodes) (Some n)).expr
-expr-from t top at n h e = ap (λ (p : Part). p.expr) (step-at (readerOf t) top t.nodes at (Some n) (node-below t top at n h e))
+expr-from : (t : Tables) (top at : ℕ) (n : Node) → at < top → slice_get t.nodes at ≡ Some n → expr_in t top at ≡ (grown (reader_of t) (part_in (reader_of t) at t.nodes) (Some n)).expr
+expr-from t top at n h e = ap (λ (p : Part). p.expr) (step-at (reader_of t) top t.nodes at (Some n) (node-below t top at n h e))
 
-args-from : (t : Tables) (top at : ℕ) (n : Node) → at < top → slice_get t.nodes at ≡ Some n → argsIn t top at ≡ (grown (readerOf t) (partIn (readerOf t) at t.nodes) (Some n)).args
-args-from t top at n h e = ap (λ (p : Part). p.args) (step-at (readerOf t) top t.nodes at (Some n) (node-below t top at n h e))
+args-from : (t : Tables) (top at : ℕ) (n : Node) → at < top → slice_get t.nodes at ≡ Some n → args_in t top at ≡ (grown (reader_of t) (part_in (reader_of t) at t.nodes) (Some n)).args
+args-from t top at n h e = ap (λ (p : Part). p.args) (step-at (reader_of t) top t.nodes at (Some n) (node-below t top at n h e))
 
 mutual
-  pub reads-expr : (t : Tables) (top lo at : ℕ) (e : Expr) → at < top → Stands t lo at e → exprIn t top at ≡ e
+  pub reads-expr : (t : Tables) (top lo at : ℕ) (e : Expr) → at < top → Stands t lo at e → expr_in t top at ≡ e
   reads-expr t top lo at _ h (num e l) = expr-from t top at _ h e
   reads-expr t top lo at _ h (name e l) = expr-from t top at _ h e
   reads-expr t top lo at _ h (calc {p = p} {a = i} {b = j} {o = o} {x = u} {y = v} e a b x y) = expr-from t top at _ h e ∙ ap₂ (Tree.calc p o) (reads-expr t at _ i u a x) (reads-expr t at _ j v b y)
@@ -154,12 +154,12 @@ mutual
   reads-expr t top lo at _ h (call {p = p} {f = f} {a = i} {xs = u} e a x) = expr-from t top at _ h e ∙ ap (Tree.call p f) (reads-args t at _ i u a x)
   reads-expr t top lo at _ h (bind {p = p} {a = i} {b = j} {x = u} {y = v} e a b x y) = expr-from t top at _ h e ∙ ap₂ (Tree.bind p) (reads-expr t at _ i u a x) (reads-expr t at _ j v b y)
   reads-expr t top lo at _ h (test {p = p} {a = i} {b = j} {d = k} {e = l} {c = c} {x = u} {y = v} {u = w} {v = z} e a b d f x y g m) =
-      expr-from t top at _ h e ∙ ap₂ (λ m n. Tree.test p c m n (exprIn t at k) (exprIn t at l)) (reads-expr t at _ i u a x) (reads-expr t at _ j v b y) ∙ ap₂ (Tree.test p c u v) (reads-expr t at _ k w d g) (reads-expr t at _ l z f m)
+      expr-from t top at _ h e ∙ ap₂ (λ m n. Tree.test p c m n (expr_in t at k) (expr_in t at l)) (reads-expr t at _ i u a x) (reads-expr t at _ j v b y) ∙ ap₂ (Tree.test p c u v) (reads-expr t at _ k w d g) (reads-expr t at _ l z f m)
   reads-expr t top lo at _ h (put {p = p} {a = i} {b = j} {e = k} {s = s} {x = u} {y = v} {u = w} e a b c x y g) =
-      expr-from t top at _ h e ∙ ap₂ (λ m n. Tree.put p s m n (exprIn t at k)) (reads-expr t at _ i u a x) (reads-expr t at _ j v b y) ∙ ap (Tree.put p s u v) (reads-expr t at _ k w c g)
+      expr-from t top at _ h e ∙ ap₂ (λ m n. Tree.put p s m n (expr_in t at k)) (reads-expr t at _ i u a x) (reads-expr t at _ j v b y) ∙ ap (Tree.put p s u v) (reads-expr t at _ k w c g)
   reads-expr t top lo at _ h (claim {p = p} {a = i} {x = u} e a x l) = expr-from t top at _ h e ∙ ap₂ (Tree.claim p) (reads-expr t at _ i u a x) l.reads
 
-  pub reads-args : (t : Tables) (top lo at : ℕ) (xs : Args) → at < top → ArgsStand t lo at xs → argsIn t top at ≡ xs
+  pub reads-args : (t : Tables) (top lo at : ℕ) (xs : Args) → at < top → ArgsStand t lo at xs → args_in t top at ≡ xs
   reads-args t top lo at _ h (end e l) = args-from t top at _ h e
   reads-args t top lo at _ h (value {a = i} {b = j} {x = u} {xs = v} e a b y x) = args-from t top at _ h e ∙ ap₂ Tree.value (reads-expr t at _ i u a x) (reads-args t at _ j v b y)
   reads-args t top lo at _ h (lent {l = l} {b = j} {xs = v} e b y) = args-from t top at _ h e ∙ ap (Tree.lent l) (reads-args t at _ j v b y)

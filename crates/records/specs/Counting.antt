@@ -11,61 +11,61 @@ up_to q p = cond (nat_le p q) 1 0
 
 -- the expressions of a tree; list arguments are none
 unfoldable mutual
-  pub exprsUpTo : ℕ → Expr → ℕ
-  exprsUpTo q (num p n) = up_to q p
-  exprsUpTo q (name p i) = up_to q p
-  exprsUpTo q (calc p o a b) = (exprsUpTo q a + exprsUpTo q b) + up_to q p
-  exprsUpTo q (read site e) = exprsUpTo q e + up_to q site.place
-  exprsUpTo q (call p f es) = argsUpTo q es + up_to q p
-  exprsUpTo q (bind p a b) = (exprsUpTo q a + exprsUpTo q b) + up_to q p
-  exprsUpTo q (test p c a b d e) = (((exprsUpTo q a + exprsUpTo q b) + exprsUpTo q d) + exprsUpTo q e) + up_to q p
-  exprsUpTo q (put p site a b e) = ((exprsUpTo q a + exprsUpTo q b) + exprsUpTo q e) + up_to q p
-  exprsUpTo q (claim p e cs) = exprsUpTo q e + up_to q p
+  pub exprs_up_to : ℕ → Expr → ℕ
+  exprs_up_to q (num p n) = up_to q p
+  exprs_up_to q (name p i) = up_to q p
+  exprs_up_to q (calc p o a b) = (exprs_up_to q a + exprs_up_to q b) + up_to q p
+  exprs_up_to q (read site e) = exprs_up_to q e + up_to q site.place
+  exprs_up_to q (call p f es) = args_up_to q es + up_to q p
+  exprs_up_to q (bind p a b) = (exprs_up_to q a + exprs_up_to q b) + up_to q p
+  exprs_up_to q (test p c a b d e) = (((exprs_up_to q a + exprs_up_to q b) + exprs_up_to q d) + exprs_up_to q e) + up_to q p
+  exprs_up_to q (put p site a b e) = ((exprs_up_to q a + exprs_up_to q b) + exprs_up_to q e) + up_to q p
+  exprs_up_to q (claim p e cs) = exprs_up_to q e + up_to q p
 
-  pub argsUpTo : ℕ → Args → ℕ
-  argsUpTo q end = 0
-  argsUpTo q (value e es) = exprsUpTo q e + argsUpTo q es
-  argsUpTo q (lent l es) = argsUpTo q es
+  pub args_up_to : ℕ → Args → ℕ
+  args_up_to q end = 0
+  args_up_to q (value e es) = exprs_up_to q e + args_up_to q es
+  args_up_to q (lent l es) = args_up_to q es
 
 -- the conditions of a list, and those in a tree
-unfoldable pub conditionsUpTo : ℕ → List Tree.Condition → ℕ
-conditionsUpTo q cs = sum_by (λ c. up_to q c.place) cs
+unfoldable pub conditions_up_to : ℕ → List Tree.Condition → ℕ
+conditions_up_to q cs = sum_by (λ c. up_to q c.place) cs
 
 unfoldable mutual
-  pub claimsUpTo : ℕ → Expr → ℕ
-  claimsUpTo q (num p n) = 0
-  claimsUpTo q (name p i) = 0
-  claimsUpTo q (calc p o a b) = claimsUpTo q a + claimsUpTo q b
-  claimsUpTo q (read site e) = claimsUpTo q e
-  claimsUpTo q (call p f es) = claimsIn q es
-  claimsUpTo q (bind p a b) = claimsUpTo q a + claimsUpTo q b
-  claimsUpTo q (test p c a b d e) = ((claimsUpTo q a + claimsUpTo q b) + claimsUpTo q d) + claimsUpTo q e
-  claimsUpTo q (put p site a b e) = (claimsUpTo q a + claimsUpTo q b) + claimsUpTo q e
-  claimsUpTo q (claim p e cs) = claimsUpTo q e + conditionsUpTo q cs
+  pub claims_up_to : ℕ → Expr → ℕ
+  claims_up_to q (num p n) = 0
+  claims_up_to q (name p i) = 0
+  claims_up_to q (calc p o a b) = claims_up_to q a + claims_up_to q b
+  claims_up_to q (read site e) = claims_up_to q e
+  claims_up_to q (call p f es) = claims_in q es
+  claims_up_to q (bind p a b) = claims_up_to q a + claims_up_to q b
+  claims_up_to q (test p c a b d e) = ((claims_up_to q a + claims_up_to q b) + claims_up_to q d) + claims_up_to q e
+  claims_up_to q (put p site a b e) = (claims_up_to q a + claims_up_to q b) + claims_up_to q e
+  claims_up_to q (claim p e cs) = claims_up_to q e + conditions_up_to q cs
 
-  pub claimsIn : ℕ → Args → ℕ
-  claimsIn q end = 0
-  claimsIn q (value e es) = claimsUpTo q e + claimsIn q es
-  claimsIn q (lent l es) = claimsIn q es
+  pub claims_in : ℕ → Args → ℕ
+  claims_in q end = 0
+  claims_in q (value e es) = claims_up_to q e + claims_in q es
+  claims_in q (lent l es) = claims_in q es
 
 -- a node is an expression, or a link of arguments
-abbrev pub nodeUpTo : ℕ → Node → ℕ
-nodeUpTo q Blank = 0
-nodeUpTo q (Num p n) = up_to q p
-nodeUpTo q (Name p i) = up_to q p
-nodeUpTo q (Calc p o a b) = up_to q p
-nodeUpTo q (Read p n l a) = up_to q p
-nodeUpTo q (Call p f xs) = up_to q p
-nodeUpTo q (Bind p a b) = up_to q p
-nodeUpTo q (Test p c a b d e) = up_to q p
-nodeUpTo q (Put p s n l a b e) = up_to q p
-nodeUpTo q (Claim p a from to) = up_to q p
-nodeUpTo q End = 0
-nodeUpTo q (Value a xs) = 0
-nodeUpTo q (Lent l xs) = 0
+abbrev pub node_up_to : ℕ → Node → ℕ
+node_up_to q Blank = 0
+node_up_to q (Num p n) = up_to q p
+node_up_to q (Name p i) = up_to q p
+node_up_to q (Calc p o a b) = up_to q p
+node_up_to q (Read p n l a) = up_to q p
+node_up_to q (Call p f xs) = up_to q p
+node_up_to q (Bind p a b) = up_to q p
+node_up_to q (Test p c a b d e) = up_to q p
+node_up_to q (Put p s n l a b e) = up_to q p
+node_up_to q (Claim p a from to) = up_to q p
+node_up_to q End = 0
+node_up_to q (Value a xs) = 0
+node_up_to q (Lent l xs) = 0
 
-unfoldable pub nodesUpTo : ℕ → List Node → ℕ
-nodesUpTo q ns = sum_by (nodeUpTo q) ns
+unfoldable pub nodes_up_to : ℕ → List Node → ℕ
+nodes_up_to q ns = sum_by (node_up_to q) ns
 
-unfoldable pub listedUpTo : ℕ → List Condition → ℕ
-listedUpTo q cs = sum_by (λ c. up_to q c.place) cs
+unfoldable pub listed_up_to : ℕ → List Condition → ℕ
+listed_up_to q cs = sum_by (λ c. up_to q c.place) cs

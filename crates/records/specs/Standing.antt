@@ -7,7 +7,7 @@ use Rattle.language.specs.Tree as Tree
 use Rattle.language.specs.Tree.{Expr, Args, Site}
 use Rattle.records.specs.declared.node.Node.TheVariants.{Num, Name, Calc, Read, Call, Bind, Test, Put, Claim, End, Value, Lent}
 use Rattle.records.specs.declared.condition.Condition.{Condition}
-use Rattle.records.specs.Tables.{Tables, stretch, conditionsIn}
+use Rattle.records.specs.Tables.{Tables, stretch, conditions_in}
 
 -- the sides of a condition end among so many items
 abbrev pub SidesIn : ℕ → Condition → Type 0
@@ -17,7 +17,7 @@ SidesIn n c = (c.middle ≤ n) × (c.to ≤ n)
 pub record Listed (t : Tables) (from to : ℕ) (cs : List Tree.Condition) : Type 0 where
   pub within : to ≤ length t.conditions
   pub sides : AllByRecursion (SidesIn (length t.items)) (stretch t.conditions from to)
-  pub reads : conditionsIn t.items t.conditions from to ≡ cs
+  pub reads : conditions_in t.items t.conditions from to ≡ cs
 
 mutual
   -- this expression stands at the second position, and its nodes lie from the first on; each part has a stretch of positions of its own, so no two parts share a node

@@ -18,28 +18,28 @@ pub record Tables : Type 0 where
 abbrev pub stretch : {A : Type 0} → List A → ℕ → ℕ → List A
 stretch xs from to = take (to - from) (drop from xs)
 
-abbrev pub atomOf : Atom → Tree.Atom
-atomOf One = Tree.one
-atomOf (Named i) = Tree.named i
-atomOf TheResult = Tree.result
+abbrev pub atom_of : Atom → Tree.Atom
+atom_of One = Tree.one
+atom_of (Named i) = Tree.named i
+atom_of TheResult = Tree.result
 
 abbrev pub item_of : Item → Tree.Item
-item_of i = record { factor = i.factor; atom = atomOf i.atom }
+item_of i = record { factor = i.factor; atom = atom_of i.atom }
 
 unfoldable pub side_in : List Item → ℕ → ℕ → Tree.Side
 side_in items from to = map item_of (stretch items from to)
 
-abbrev pub conditionIn : List Item → Condition → Tree.Condition
-conditionIn items c = record {
+abbrev pub condition_in : List Item → Condition → Tree.Condition
+condition_in items c = record {
   place = c.place;
   left = side_in items c.from c.middle;
   comparison = c.comparison;
   right = side_in items c.middle c.to;
 }
 
-unfoldable pub conditionsIn : List Item → List Condition → ℕ → ℕ → List Tree.Condition
-conditionsIn items conditions from to = map (conditionIn items) (stretch conditions from to)
+unfoldable pub conditions_in : List Item → List Condition → ℕ → ℕ → List Tree.Condition
+conditions_in items conditions from to = map (condition_in items) (stretch conditions from to)
 
-abbrev pub paramOf : Param → Tree.Param
-paramOf Params.Number = Tree.a_number
-paramOf Params.List = Tree.aList
+abbrev pub param_of : Param → Tree.Param
+param_of Params.Number = Tree.a_number
+param_of Params.List = Tree.a_list

@@ -7,9 +7,9 @@ use Rattle.language.specs.Tree as Tree
 use Rattle.records.specs.declared.node.Node.{Node}
 use Rattle.records.specs.declared.condition.Condition.{Condition}
 use Rattle.records.specs.declared.condition.Item.{Item}
-use Rattle.records.specs.Tables.{Tables, conditionIn, conditionsIn, stretch}
+use Rattle.records.specs.Tables.{Tables, condition_in, conditions_in, stretch}
 use Rattle.records.specs.Standing.{SidesIn, Listed, Stands, Grows}
-use Rattle.records.specs.Counting.{up_to, conditionsUpTo, nodeUpTo, nodesUpTo, listedUpTo}
+use Rattle.records.specs.Counting.{up_to, conditions_up_to, node_up_to, nodes_up_to, listed_up_to}
 use Rattle.records.proofs.Standing.{nth_end, same_tables, then_grows, listed-on, stands_on, args-on, wider}
 use Rattle.records.specs.Columns.{Columns, tables_by}
 use Rattle.resolving.specs.Making.{Listing, ConditionsAlone}
@@ -68,8 +68,8 @@ made_then {p = p} {q = q} {r = r} a s b = record {
 }
 
 -- a node is pushed
-pub made-push : (p : Columns) (node : Node) → Made 1 (λ byte. nodeUpTo byte node) (λ byte. 0) (λ t. slice_get t.nodes (length p.nodes.entries) ≡ Some node) p (added p node)
-unfolding nodesUpTo
+pub made-push : (p : Columns) (node : Node) → Made 1 (λ byte. node_up_to byte node) (λ byte. 0) (λ t. slice_get t.nodes (length p.nodes.entries) ≡ Some node) p (added p node)
+unfolding nodes_up_to
 made-push p node = record {
   grows = record { nodes = (node ∷ [], refl); conditions = ([], sym (append-nil p.conditions.entries)); items = ([], sym (append-nil p.items.entries)) };
   holds = nth_end p.nodes.entries node;
@@ -78,13 +78,13 @@ made-push p node = record {
   items = omega arith;
   rooms = (refl, refl, refl);
   others = (refl, refl, refl);
-  exprs = λ byte. sum_by_push (nodeUpTo byte) p.nodes.entries node;
+  exprs = λ byte. sum_by_push (node_up_to byte) p.nodes.entries node;
   conditions = λ byte. omega arith;
 }
 
 -- a node is pushed after a step, and what it stands for holds then
 pub made-node : {v w : ℕ} {c c' k k' : ℕ → ℕ} {R R' : Tables → Type 0} {p q : Columns} (last : Columns) (node : Node) → Made v c k R p q → last ≡ added q node
-    → v + 1 ≤ w → ((byte : ℕ) → c byte + nodeUpTo byte node ≡ c' byte) → ((byte : ℕ) → k byte ≡ k' byte)
+    → v + 1 ≤ w → ((byte : ℕ) → c byte + node_up_to byte node ≡ c' byte) → ((byte : ℕ) → k byte ≡ k' byte)
     → (R (tables_by q) → (t : Tables) → Grows (tables_by q) t → length q.nodes.entries < length t.nodes → slice_get t.nodes (length q.nodes.entries) ≡ Some node → R' t)
     → Made w c' k' R' p last
 made-node {w = w} {c' = c'} {k' = k'} {R = R} {R' = R'} {p = p} {q = q} last node m e h x y f =
@@ -103,25 +103,25 @@ made-node {w = w} {c' = c'} {k' = k'} {R = R} {R' = R'} {p = p} {q = q} last nod
     })
 
 -- conditions go into their tables
-places : (byte : ℕ) (items : List Item) (cs : List Condition) → sum_by (λ (c : Condition). up_to byte c.place) cs ≡ conditionsUpTo byte (map (conditionIn items) cs)
-unfolding conditionsUpTo
+places : (byte : ℕ) (items : List Item) (cs : List Condition) → sum_by (λ (c : Condition). up_to byte c.place) cs ≡ conditions_up_to byte (map (condition_in items) cs)
+unfolding conditions_up_to
 places byte items [] = refl
 places byte items (c ∷ cs) =
     sum_by-cons (λ (c : Condition). up_to byte c.place) c cs ∙ ap (λ n. up_to byte c.place + n) (places byte items cs)
-    ∙ sym (sum_by-cons (λ (c : Tree.Condition). up_to byte c.place) (conditionIn items c) (map (conditionIn items) cs))
+    ∙ sym (sum_by-cons (λ (c : Tree.Condition). up_to byte c.place) (condition_in items c) (map (condition_in items) cs))
 
 pub listed_here : (ys : List Tree.Condition) (ns : List Node) (ds ds' : List Condition) (is is' : List Item) (from to : ℕ) → Listing ys ds ds' is is' → from ≡ length ds → to ≡ length ds' → Listed (record { nodes = ns; conditions = ds'; items = is' }) from to ys
-unfolding conditionsIn
+unfolding conditions_in
 listed_here ys ns ds ds' is is' from to l f t =
     let e : stretch ds' from to ≡ l.more = ap₂ (stretch ds') f t ∙ ap (λ xs. stretch xs (length ds) (length xs)) l.grown ∙ stretched ds l.more in record {
       within = omega arith;
       sides = subst (λ xs. AllByRecursion (SidesIn (length is')) xs) (sym e) l.sides;
-      reads = ap (map (conditionIn is')) e ∙ l.stand;
+      reads = ap (map (condition_in is')) e ∙ l.stand;
     }
 
 pub made-listed : (ys : List Tree.Condition) (w from to : ℕ) (p q : Columns) → Listing ys p.conditions.entries q.conditions.entries p.items.entries q.items.entries → from ≡ length p.conditions.entries → to ≡ length q.conditions.entries → length ys ≤ w → length q.items.entries ≤ length p.items.entries + w → ConditionsAlone p q
-    → Made w (λ byte. 0) (λ byte. conditionsUpTo byte ys) (λ t. Listed t from to ys) p q
-unfolding listedUpTo
+    → Made w (λ byte. 0) (λ byte. conditions_up_to byte ys) (λ t. Listed t from to ys) p q
+unfolding listed_up_to
 made-listed ys w from to p q l f t h m alone =
     let e = alone.rest in
     let n : q.nodes ≡ p.nodes = ap (λ (c : Columns). c.nodes) e in
@@ -129,12 +129,12 @@ made-listed ys w from to p q l f t h m alone =
       grows = record { nodes = ([], ns ∙ sym (append-nil p.nodes.entries)); conditions = (l.more, l.grown); items = l.items };
       holds = listed_here ys q.nodes.entries p.conditions.entries q.conditions.entries p.items.entries q.items.entries from to l f t;
       nodes = omega (arith, ap length ns);
-      listed = omega (arith, ap length l.grown, length-append p.conditions.entries l.more, length-map l.more (conditionIn q.items.entries), ap length l.stand);
+      listed = omega (arith, ap length l.grown, length-append p.conditions.entries l.more, length-map l.more (condition_in q.items.entries), ap length l.stand);
       items = m;
       rooms = (ap (λ (c : Columns). c.nodes.room) e, alone.room, alone.items);
       others = (ap (λ (c : Columns). c.params) e, ap (λ (c : Columns). c.entries) e, ap (λ (c : Columns). c.lender) e);
-      exprs = λ byte. omega (arith, ap (nodesUpTo byte) ns);
-      conditions = λ byte. ap (sum_by (λ (c : Condition). up_to byte c.place)) l.grown ∙ sum_by-append (λ (c : Condition). up_to byte c.place) p.conditions.entries l.more ∙ ap (λ n. sum_by (λ (c : Condition). up_to byte c.place) p.conditions.entries + n) (places byte q.items.entries l.more ∙ ap (conditionsUpTo byte) l.stand);
+      exprs = λ byte. omega (arith, ap (nodes_up_to byte) ns);
+      conditions = λ byte. ap (sum_by (λ (c : Condition). up_to byte c.place)) l.grown ∙ sum_by-append (λ (c : Condition). up_to byte c.place) p.conditions.entries l.more ∙ ap (λ n. sum_by (λ (c : Condition). up_to byte c.place) p.conditions.entries + n) (places byte q.items.entries l.more ∙ ap (conditions_up_to byte) l.stand);
     }
 
 pub listed-grows : (from to : ℕ) (cs : List Tree.Condition) (s t : Tables) → Grows s t → Listed s from to cs → Listed t from to cs

@@ -5,24 +5,24 @@ use Rattle.std.proofs.lemmas.Bool.{cases_lt}
 use Rattle.std.proofs.ByRecursion.{All-append}
 use Rattle.letters.specs.declared.token.Token.{Token}
 use Rattle.letters.specs.declared.kind.Kind.TheVariants.{Numeral, Times, Comma, End}
-use Rattle.letters.specs.Kinds.{sameKind}
-use Rattle.letters.specs.Tokens.{tokenOf}
-use Rattle.grammar.specs.Parsers.{Look, lookIn, is_a}
+use Rattle.letters.specs.Kinds.{same_kind}
+use Rattle.letters.specs.Tokens.{token_of}
+use Rattle.grammar.specs.Parsers.{Look, look_in, is_a}
 use Rattle.grammar.specs.Raw as Raw
-use Rattle.grammar.specs.Sheets.{plainItem, timesItem, conditionOf}
-use Rattle.grammar.specs.Stretches.{past, item_at, sideAt, conditionAt, conditionsAt}
+use Rattle.grammar.specs.Sheets.{plain_item, times_item, condition_of}
+use Rattle.grammar.specs.Stretches.{past, item_at, side_at, condition_at, conditions_at}
 use Rattle.naming.specs.Scopes.{Scope}
 use Rattle.naming.proofs.Joins.{rest-none}
 use Rattle.naming.proofs.Turns.{side-list, conditions-list, past-side}
 use Rattle.language.specs.Tree as Tree
 use Rattle.records.specs.declared.condition.Condition.{Condition}
 use Rattle.records.specs.declared.condition.Item.{Item}
-use Rattle.records.specs.Tables.{stretch, item_of, side_in, conditionIn}
+use Rattle.records.specs.Tables.{stretch, item_of, side_in, condition_in}
 use Rattle.records.specs.Standing.{SidesIn}
 use Rattle.records.proofs.Stretches.{stays}
 use Rattle.records.proofs.Standing.{more-more, conditions-stay, longer, sides-in}
 use Rattle.resolving.specs.Resolving as Resolving
-use Rattle.resolving.specs.Resolving.{sidePlace, itemPlace}
+use Rattle.resolving.specs.Resolving.{side_place, item_place}
 use Rattle.resolving.specs.Making.{Added, Listing, Formed}
 
 -- what was added is a stretch of the table
@@ -39,26 +39,26 @@ unfolding side_in
 side-kept ys xs xs' more a = ap (map item_of) (stays xs' more (length xs) (length xs') (omega arith)) ∙ side-added ys xs xs' a
 
 -- a condition's place is that of its first token
-item-place : (l : Look) (m : Bool) (i : ℕ) → itemPlace (item_at l m i).value ≡ (l i).place
+item-place : (l : Look) (m : Bool) (i : ℕ) → item_place (item_at l m i).value ≡ (l i).place
 item-place l m i = go (is_a Numeral (l i)) (is_a Times (l (suc i)))
   where
-    go : (b t : Bool) → itemPlace (cond b (cond t (past (timesItem m (l i) (l (suc (suc i)))) (suc (suc (suc i)))) (past (plainItem m (l i)) (suc i))) (past (plainItem m (l i)) (suc i))).value ≡ (l i).place
+    go : (b t : Bool) → item_place (cond b (cond t (past (times_item m (l i) (l (suc (suc i)))) (suc (suc (suc i)))) (past (plain_item m (l i)) (suc i))) (past (plain_item m (l i)) (suc i))).value ≡ (l i).place
     go true true = refl
     go true false = refl
     go false t = refl
 
-pub side-place : (l : Look) (n i : ℕ) → sidePlace (sideAt n l i).value ≡ (l i).place
-side-place l n i = ap sidePlace (side-list l n i) ∙ item-place l false i
+pub side-place : (l : Look) (n i : ℕ) → side_place (side_at n l i).value ≡ (l i).place
+side-place l n i = ap side_place (side-list l n i) ∙ item-place l false i
 
 module _ (text : List ℕ) (Γ : Scope) where
   pub formed : (r : Raw.Condition) (c : Condition) (xs xs' xs'' : List Item) → Added item_of (map (Resolving.item_of text Γ) r.left) xs xs' → Added item_of (map (Resolving.item_of text Γ) r.right) xs' xs''
-      → c.place ≡ sidePlace r.left → c.comparison ≡ Resolving.comparisonOf r.comparison.kind → c.from ≡ length xs → c.middle ≡ length xs' → c.to ≡ length xs'' → Formed (Resolving.conditionOf text Γ r) c xs xs''
+      → c.place ≡ side_place r.left → c.comparison ≡ Resolving.comparison_of r.comparison.kind → c.from ≡ length xs → c.middle ≡ length xs' → c.to ≡ length xs'' → Formed (Resolving.condition_of text Γ r) c xs xs''
   formed r c xs xs' xs'' a b p s f m t = record {
     items = more-more xs xs' xs'' (a.more, a.grown) (b.more, b.grown);
     sides = (omega (arith, ap length b.grown, length-append xs' b.more), omega arith);
     stand =
         ap₂ (λ x y. record { place = x; left = side_in xs'' c.from c.middle; comparison = y; right = side_in xs'' c.middle c.to }) p s
-        ∙ ap₂ (λ x y. record { place = sidePlace r.left; left = x; comparison = Resolving.comparisonOf r.comparison.kind; right = y })
+        ∙ ap₂ (λ x y. record { place = side_place r.left; left = x; comparison = Resolving.comparison_of r.comparison.kind; right = y })
         (ap₂ (side_in xs'') f m ∙ ap (λ l. side_in l (length xs) (length xs')) b.grown ∙ side-kept _ xs xs' b.more a)
         (ap₂ (side_in xs'') m t ∙ side-added _ xs' xs'' b);
   }
@@ -80,8 +80,8 @@ listing-then ys zs ds ds' ds'' is is' is'' a b =
       grown = b.grown ∙ ap (λ l. l ++ b.more) a.grown ∙ append_assoc ds a.more b.more;
       items = more-more is is' is'' a.items b.items;
       sides = All-append (SidesIn (length is'')) a.more b.more (sides-in (length is') (length is'') (omega (arith, ap length e, longer is' xs)) a.more a.sides) b.sides;
-      stand = map-append (conditionIn is'') a.more b.more
-          ∙ ap₂ ◌++◌ (ap (λ l. map (conditionIn l) a.more) e ∙ conditions-stay is' xs a.more a.sides ∙ a.stand) b.stand;
+      stand = map-append (condition_in is'') a.more b.more
+          ∙ ap₂ ◌++◌ (ap (λ l. map (condition_in l) a.more) e ∙ conditions-stay is' xs a.more a.sides ∙ a.stand) b.stand;
     }
 
 -- some conditions are in the tables, and these are left
@@ -108,27 +108,27 @@ module _ (F : Raw.Condition → Tree.Condition) where
       (listing-then (F r ∷ []) u.done ds ds' ds'' is is' is'' (listing-one (F r) c ds ds' is is' f e) u.listing)
 
 -- past the last token conditions read the same anywhere
-pub clamped : (ts : List Token) (e n i : ℕ) → (conditionsAt n (lookIn ts e) (min i (length ts))).value ≡ (conditionsAt n (lookIn ts e) i).value
-unfolding sameKind
+pub clamped : (ts : List Token) (e n i : ℕ) → (conditions_at n (look_in ts e) (min i (length ts))).value ≡ (conditions_at n (look_in ts e) i).value
+unfolding same_kind
 clamped ts e n i = elim (cases_lt i (length ts)) [
-  | inl h ↦ ap (λ j. (conditionsAt n (lookIn ts e) j).value) (let m : min i (length ts) ≡ i = omega arith in m)
-  | inr h ↦ ap (λ j. (conditionsAt n (lookIn ts e) j).value) (let m : min i (length ts) ≡ length ts = omega arith in m) ∙ beyond (length ts) (omega arith) ∙ sym (beyond i h)
+  | inl h ↦ ap (λ j. (conditions_at n (look_in ts e) j).value) (let m : min i (length ts) ≡ i = omega arith in m)
+  | inr h ↦ ap (λ j. (conditions_at n (look_in ts e) j).value) (let m : min i (length ts) ≡ length ts = omega arith in m) ∙ beyond (length ts) (omega arith) ∙ sym (beyond i h)
 ]
   where
     E : Token
-    E = tokenOf End e 0 0
+    E = token_of End e 0 0
 
-    beyond : (i : ℕ) → length ts ≤ i → (conditionsAt n (lookIn ts e) i).value ≡ conditionOf (plainItem false E ∷ []) E (plainItem false E ∷ []) ∷ []
+    beyond : (i : ℕ) → length ts ≤ i → (conditions_at n (look_in ts e) i).value ≡ condition_of (plain_item false E ∷ []) E (plain_item false E ∷ []) ∷ []
     beyond i h =
-        let l : Look = lookIn ts e in
-        let j : ℕ = (sideAt n l i).next in
-        let k : ℕ = (sideAt n l (suc j)).next in
+        let l : Look = look_in ts e in
+        let j : ℕ = (side_at n l i).next in
+        let k : ℕ = (side_at n l (suc j)).next in
         let a : j ≡ i + 1 = (past-side ts e n i h).1 in
         let b : k ≡ suc j + 1 = (past-side ts e n (suc j) (omega arith)).1 in
         let d : is_a Comma (l k) ≡ false = ap (is_a Comma) (get_or_past ts k E (omega arith)) in
-        conditions-list l n i ∙ ap (λ cs. (conditionAt n l i).value ∷ cs) (rest-none l (is_a Comma) (λ t m. conditionAt n l m) n k d)
-        ∙ ap₂ (λ x y. conditionOf x (l j) y ∷ []) (past-side ts e n i h).0 (past-side ts e n (suc j) (omega arith)).0
-        ∙ ap (λ t. conditionOf (plainItem false E ∷ []) t (plainItem false E ∷ []) ∷ []) (get_or_past ts j E (omega arith))
+        conditions-list l n i ∙ ap (λ cs. (condition_at n l i).value ∷ cs) (rest-none l (is_a Comma) (λ t m. condition_at n l m) n k d)
+        ∙ ap₂ (λ x y. condition_of x (l j) y ∷ []) (past-side ts e n i h).0 (past-side ts e n (suc j) (omega arith)).0
+        ∙ ap (λ t. condition_of (plain_item false E ∷ []) t (plain_item false E ∷ []) ∷ []) (get_or_past ts j E (omega arith))
 
 -- the same items
 pub under-in : (F : Raw.Condition → Tree.Condition) (ys zs : List Raw.Condition) (ds ds' : List Condition) {is js is' js' : List Item} → Under F ys zs ds ds' is is' → js ≡ is → js' ≡ is' → Under F ys zs ds ds' js js'

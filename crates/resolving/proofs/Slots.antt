@@ -3,7 +3,7 @@ use Rattle.std.proofs.Common.{◌≡◌, ℕ, ◌+◌, ◌<◌, ◌≤◌, true,
 use Rattle.std.proofs.lemmas.List.{at_drop_more, at_drop_all}
 use Rattle.letters.specs.declared.token.Token.{Token}
 use Rattle.letters.specs.Tokens.{same_name}
-use Rattle.naming.specs.Scopes.{slotIn, next}
+use Rattle.naming.specs.Scopes.{slot_in, next}
 
 pub none-some : (o : Option ℕ) → is_some o ≡ false → None ≡ o
 none-some None e = refl
@@ -23,20 +23,20 @@ later-next i None = refl
 later-next i (Some j) = ap Some (omega arith)
 
 module _ (text : List ℕ) (t : Token) (F : ℕ → Token) where
-  abbrev pub slotsFrom : List ℕ → Option ℕ
-  slotsFrom ns = slotIn text (map F ns) t
+  abbrev pub slots_from : List ℕ → Option ℕ
+  slots_from ns = slot_in text (map F ns) t
 
-  pub begins : (ns : List ℕ) → slotsFrom ns ≡ later 0 (slotsFrom (drop 0 ns))
-  begins ns = later-none (slotsFrom ns)
+  pub begins : (ns : List ℕ) → slots_from ns ≡ later 0 (slots_from (drop 0 ns))
+  begins ns = later-none (slots_from ns)
 
-  pub here : (ns : List ℕ) (i : ℕ) (w : Option ℕ) → w ≡ later i (slotsFrom (drop i ns)) → i < length ns → same_name text (F (get_or ns i 0)) t ≡ true → Some i ≡ w
-  unfolding slotIn
-  here ns i w inv h e = sym (inv ∙ ap (later i) (at_drop_more slotsFrom ns i 0 h) ∙ ap (λ b. later i (cond b (Some 0) (next (slotsFrom (drop (i + 1) ns))))) e ∙ ap Some (omega arith))
+  pub here : (ns : List ℕ) (i : ℕ) (w : Option ℕ) → w ≡ later i (slots_from (drop i ns)) → i < length ns → same_name text (F (get_or ns i 0)) t ≡ true → Some i ≡ w
+  unfolding slot_in
+  here ns i w inv h e = sym (inv ∙ ap (later i) (at_drop_more slots_from ns i 0 h) ∙ ap (λ b. later i (cond b (Some 0) (next (slots_from (drop (i + 1) ns))))) e ∙ ap Some (omega arith))
 
-  pub on : (ns : List ℕ) (i : ℕ) (w : Option ℕ) → w ≡ later i (slotsFrom (drop i ns)) → i < length ns → same_name text (F (get_or ns i 0)) t ≡ false → w ≡ later (i + 1) (slotsFrom (drop (i + 1) ns))
-  unfolding slotIn
-  on ns i w inv h e = inv ∙ ap (later i) (at_drop_more slotsFrom ns i 0 h) ∙ ap (λ b. later i (cond b (Some 0) (next (slotsFrom (drop (i + 1) ns))))) e ∙ later-next i (slotsFrom (drop (i + 1) ns))
+  pub on : (ns : List ℕ) (i : ℕ) (w : Option ℕ) → w ≡ later i (slots_from (drop i ns)) → i < length ns → same_name text (F (get_or ns i 0)) t ≡ false → w ≡ later (i + 1) (slots_from (drop (i + 1) ns))
+  unfolding slot_in
+  on ns i w inv h e = inv ∙ ap (later i) (at_drop_more slots_from ns i 0 h) ∙ ap (λ b. later i (cond b (Some 0) (next (slots_from (drop (i + 1) ns))))) e ∙ later-next i (slots_from (drop (i + 1) ns))
 
-  pub nowhere : (ns : List ℕ) (i : ℕ) (w : Option ℕ) → w ≡ later i (slotsFrom (drop i ns)) → length ns ≤ i → None ≡ w
-  unfolding slotIn
-  nowhere ns i w inv h = sym (inv ∙ ap (later i) (at_drop_all slotsFrom ns i h))
+  pub nowhere : (ns : List ℕ) (i : ℕ) (w : Option ℕ) → w ≡ later i (slots_from (drop i ns)) → length ns ≤ i → None ≡ w
+  unfolding slot_in
+  nowhere ns i w inv h = sym (inv ∙ ap (later i) (at_drop_all slots_from ns i h))

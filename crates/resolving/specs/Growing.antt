@@ -1,15 +1,15 @@
 -- How the tables grow while a tree is put into them.
 use Rattle.std.specs.Prelude.{◌≡◌, ℕ, ◌+◌, ◌<◌, ◌≤◌, length}
 use Rattle.grammar.specs.Raw as Raw
-use Rattle.syntax.specs.Weights.{exprWeight, argsWeight}
+use Rattle.syntax.specs.Weights.{expr_weight, args_weight}
 use Rattle.naming.specs.Scopes.{Scope, Sheet}
 use Rattle.language.specs.Tree as Tree
 use Rattle.records.specs.declared.node.Node.{Node}
 use Rattle.records.specs.Tables.{Tables}
 use Rattle.records.specs.Columns.{Columns, pushed, tables_by}
 use Rattle.records.specs.Standing.{Stands, ArgsStand, Grows}
-use Rattle.records.specs.Counting.{exprsUpTo, argsUpTo, claimsUpTo, claimsIn, nodesUpTo, listedUpTo}
-use Rattle.resolving.specs.Resolving.{exprOf, args_of}
+use Rattle.records.specs.Counting.{exprs_up_to, args_up_to, claims_up_to, claims_in, nodes_up_to, listed_up_to}
+use Rattle.resolving.specs.Resolving.{expr_of, args_of}
 
 -- a node is put after the others
 abbrev pub added : Columns → Node → Columns
@@ -30,8 +30,8 @@ pub record Made (w : ℕ) (c k : ℕ → ℕ) (R : Tables → Type 0) (p q : Col
   pub items : length q.items.entries ≤ length p.items.entries + w
   pub rooms : (q.nodes.room ≡ p.nodes.room) × (q.conditions.room ≡ p.conditions.room) × (q.items.room ≡ p.items.room)
   pub others : (q.params ≡ p.params) × (q.entries ≡ p.entries) × (q.lender ≡ p.lender)
-  pub exprs : (byte : ℕ) → nodesUpTo byte q.nodes.entries ≡ nodesUpTo byte p.nodes.entries + c byte
-  pub conditions : (byte : ℕ) → listedUpTo byte q.conditions.entries ≡ listedUpTo byte p.conditions.entries + k byte
+  pub exprs : (byte : ℕ) → nodes_up_to byte q.nodes.entries ≡ nodes_up_to byte p.nodes.entries + c byte
+  pub conditions : (byte : ℕ) → listed_up_to byte q.conditions.entries ≡ listed_up_to byte p.conditions.entries + k byte
 
 -- an expression, or arguments, at a position of the table of nodes, the nodes lying from another position on
 pub record ExprAt (t : Tables) (lo at : ℕ) (e : Tree.Expr) : Type 0 where
@@ -44,9 +44,9 @@ pub record ArgsAt (t : Tables) (lo at : ℕ) (es : Tree.Args) : Type 0 where
 
 -- a written expression is resolved into the tables, all its nodes new
 abbrev pub ExprMade : Sheet → Scope → Raw.Expr → ℕ → Columns → Columns → Type 0
-ExprMade S Γ e at p q = Made (exprWeight e) (λ byte. exprsUpTo byte (exprOf S Γ e)) (λ byte. claimsUpTo byte (exprOf S Γ e)) (λ t. ExprAt t (length p.nodes.entries) at (exprOf S Γ e)) p q
+ExprMade S Γ e at p q = Made (expr_weight e) (λ byte. exprs_up_to byte (expr_of S Γ e)) (λ byte. claims_up_to byte (expr_of S Γ e)) (λ t. ExprAt t (length p.nodes.entries) at (expr_of S Γ e)) p q
 
 -- written arguments are, before those that stand at a position; the new nodes lie after those
 pub record ArgsMade (S : Sheet) (Γ : Scope) (es : Raw.Args) (after at : ℕ) (p q : Columns) : Type 0 where
-  pub made : Made (argsWeight es) (λ byte. argsUpTo byte (args_of S Γ es Tree.end)) (λ byte. claimsIn byte (args_of S Γ es Tree.end)) (λ t. Unit {0}) p q
+  pub made : Made (args_weight es) (λ byte. args_up_to byte (args_of S Γ es Tree.end)) (λ byte. claims_in byte (args_of S Γ es Tree.end)) (λ t. Unit {0}) p q
   pub stands : (lo : ℕ) (xs : Tree.Args) → ArgsAt (tables_by p) lo after xs → ArgsAt (tables_by q) lo at (args_of S Γ es xs)

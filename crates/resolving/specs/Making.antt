@@ -8,7 +8,7 @@ use Rattle.naming.specs.Sources.{source_of}
 use Rattle.language.specs.Tree as Tree
 use Rattle.records.specs.declared.condition.Condition.{Condition}
 use Rattle.records.specs.declared.condition.Item.{Item}
-use Rattle.records.specs.Tables.{conditionIn}
+use Rattle.records.specs.Tables.{condition_in}
 use Rattle.records.specs.Standing.{SidesIn}
 use Rattle.records.specs.Columns.{Columns}
 
@@ -31,13 +31,13 @@ pub record Listing (ys : List Tree.Condition) (ds ds' : List Condition) (is is' 
   pub grown : ds' ≡ ds ++ more
   pub items : (xs : List Item) × (is' ≡ is ++ xs)
   pub sides : AllByRecursion (SidesIn (length is')) more
-  pub stand : map (conditionIn is') more ≡ ys
+  pub stand : map (condition_in is') more ≡ ys
 
 -- one condition whose items lie in the table of items, which grew
 pub record Formed (y : Tree.Condition) (c : Condition) (is is' : List Item) : Type 0 where
   pub items : (xs : List Item) × (is' ≡ is ++ xs)
   pub sides : SidesIn (length is') c
-  pub stand : conditionIn is' c ≡ y
+  pub stand : condition_in is' c ≡ y
 
 -- items alone are new
 pub record ItemsAlone (p q : Columns) : Type 0 where

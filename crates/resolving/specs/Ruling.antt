@@ -3,9 +3,9 @@ use Rattle.std.specs.Prelude.{◌≡◌, ℕ, ◌+◌, ◌≤◌, List, [], ◌+
 use Rattle.letters.specs.declared.kind.Kind.TheVariants.{Needs, Gives}
 use Rattle.grammar.specs.Raw as Raw
 use Rattle.grammar.specs.Sheets as Sheets
-use Rattle.grammar.specs.Stretches.{params_at, optionalAt}
-use Rattle.grammar.specs.Trees.{look_of, rawAt}
-use Rattle.syntax.specs.Weights.{ruleWeight, weightOf}
+use Rattle.grammar.specs.Stretches.{params_at, optional_at}
+use Rattle.grammar.specs.Trees.{look_of, raw_at}
+use Rattle.syntax.specs.Weights.{rule_weight, weight_of}
 use Rattle.naming.specs.declared.written.Written.{Written}
 use Rattle.naming.specs.declared.taken.Ruled.{Ruled}
 use Rattle.naming.specs.Scopes.{Sheet}
@@ -14,40 +14,40 @@ use Rattle.records.specs.declared.entry.Param.{Param}
 use Rattle.records.specs.declared.entry.Entry.{Entry}
 use Rattle.records.specs.Columns.{Columns, tables_by}
 use Rattle.records.specs.Rules.{RuleStands, RulesStand}
-use Rattle.records.specs.Counting.{exprsUpTo, conditionsUpTo, claimsUpTo, nodesUpTo, listedUpTo}
-use Rattle.counting.specs.Counts.{sheetExprs, sheetConditions}
-use Rattle.resolving.specs.Resolving.{ruleOf}
+use Rattle.records.specs.Counting.{exprs_up_to, conditions_up_to, claims_up_to, nodes_up_to, listed_up_to}
+use Rattle.counting.specs.Counts.{sheet_exprs, sheet_conditions}
+use Rattle.resolving.specs.Resolving.{rule_of}
 use Rattle.resolving.specs.Growing.{Made}
 
 -- the rule whose parts are these, its body at a position below top
-abbrev pub ruleBy : Written → ℕ → Ruled → Raw.Rule
-ruleBy w top k =
+abbrev pub rule_by : Written → ℕ → Ruled → Raw.Rule
+rule_by w top k =
     let s = source_of w in
     let n = length w.tokens.now in
-    Sheets.ruleOf (look_of s k.keyword) (look_of s k.name) (params_at n (look_of s) k.params) (optionalAt n (look_of s) Needs k.needs) (optionalAt n (look_of s) Gives k.gives) (rawAt s top w.nodes.now k.body)
+    Sheets.rule_of (look_of s k.keyword) (look_of s k.name) (params_at n (look_of s) k.params) (optional_at n (look_of s) Needs k.needs) (optional_at n (look_of s) Gives k.gives) (raw_at s top w.nodes.now k.body)
 
 -- the same with other parameters
-abbrev pub paramsOf : Columns → Columns → Columns
-paramsOf q p = record p { params = q.params }
+abbrev pub tree_params : Columns → Columns → Columns
+tree_params q p = record p { params = q.params }
 
 -- a written rule is resolved into the tables, as an entry that is not yet among them; the nodes of its body are new
 pub record RuleMade (S : Sheet) (r : Raw.Rule) (e : Entry) (p q : Columns) : Type 0 where
-  pub made : Made (ruleWeight r) (λ byte. exprsUpTo byte (ruleOf S r).body) (λ byte. (conditionsUpTo byte (ruleOf S r).needs + conditionsUpTo byte (ruleOf S r).gives) + claimsUpTo byte (ruleOf S r).body) (λ t. Unit {0}) (paramsOf q p) q
+  pub made : Made (rule_weight r) (λ byte. exprs_up_to byte (rule_of S r).body) (λ byte. (conditions_up_to byte (rule_of S r).needs + conditions_up_to byte (rule_of S r).gives) + claims_up_to byte (rule_of S r).body) (λ t. Unit {0}) (tree_params q p) q
   pub params : (more : List Param) × (q.params.entries ≡ p.params.entries ++ more)
-  pub few : length q.params.entries ≤ length p.params.entries + ruleWeight r
+  pub few : length q.params.entries ≤ length p.params.entries + rule_weight r
   pub roomy : q.params.room ≡ p.params.room
-  pub stands : RuleStands (tables_by q) q.params.entries (length p.nodes.entries) e (ruleOf S r)
+  pub stands : RuleStands (tables_by q) q.params.entries (length p.nodes.entries) e (rule_of S r)
 
 -- written rules are, as entries
 pub record RulesMade (S : Sheet) (rs : List Raw.Rule) (p : Columns) : Type 0 where
-  pub stand : RulesStand (tables_by p) p.params.entries 0 p.entries.entries (map (ruleOf S) rs)
-  pub nodes : length p.nodes.entries ≤ weightOf rs
-  pub conditions : length p.conditions.entries ≤ weightOf rs
-  pub items : length p.items.entries ≤ weightOf rs
-  pub params : length p.params.entries ≤ weightOf rs
-  pub rules : length p.entries.entries ≤ weightOf rs
-  pub exprs : (byte : ℕ) → nodesUpTo byte p.nodes.entries ≡ sheetExprs byte (map (ruleOf S) rs)
-  pub claims : (byte : ℕ) → listedUpTo byte p.conditions.entries ≡ sheetConditions byte (map (ruleOf S) rs)
+  pub stand : RulesStand (tables_by p) p.params.entries 0 p.entries.entries (map (rule_of S) rs)
+  pub nodes : length p.nodes.entries ≤ weight_of rs
+  pub conditions : length p.conditions.entries ≤ weight_of rs
+  pub items : length p.items.entries ≤ weight_of rs
+  pub params : length p.params.entries ≤ weight_of rs
+  pub rules : length p.entries.entries ≤ weight_of rs
+  pub exprs : (byte : ℕ) → nodes_up_to byte p.nodes.entries ≡ sheet_exprs byte (map (rule_of S) rs)
+  pub claims : (byte : ℕ) → listed_up_to byte p.conditions.entries ≡ sheet_conditions byte (map (rule_of S) rs)
 
 -- nothing lies in the tables yet
 pub record Empty (p : Columns) : Type 0 where

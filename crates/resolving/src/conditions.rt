@@ -1,15 +1,15 @@
 ghost use Rattle.std.specs.Prelude.{◌≡◌, ◌+◌, ◌<◌, ◌≤◌, max, false, [], map, length, pos};
-ghost use Rattle.letters.specs.Kinds.{sameKind};
-ghost use Rattle.grammar.specs.Sheets.{sumSign};
-ghost use Rattle.grammar.specs.Stretches.{item_at, sideAt, conditionAt, conditionsAt, optionalAt};
+ghost use Rattle.letters.specs.Kinds.{same_kind};
+ghost use Rattle.grammar.specs.Sheets.{sum_sign};
+ghost use Rattle.grammar.specs.Stretches.{item_at, side_at, condition_at, conditions_at, optional_at};
 ghost use Rattle.grammar.specs.Trees.{look_of};
 ghost use Rattle.records.specs.Laying.{columns_of};
 ghost use Rattle.naming.specs.Reaches.{scope_of};
 ghost use Rattle.naming.specs.Sources.{source_of};
 ghost use Rattle.records.specs.Tables as lists;
-ghost use Rattle.resolving.specs.Resolving.{signed, factorOf, atomOf, item_of, conditionOf, conditionsOf};
+ghost use Rattle.resolving.specs.Resolving.{signed, factor_of, atom_of, item_of, condition_of, conditions_of};
 ghost use Rattle.resolving.specs.Making.{Fit, Added, Listing, Formed, ItemsAlone, ConditionsAlone};
-ghost use Rattle.syntax.specs.Weights.{conditionWeight, conditionsWeight};
+ghost use Rattle.syntax.specs.Weights.{condition_weight, conditions_weight};
 
 use crate::item::{ConditionAt, ItemAt};
 use crate::lookups::slot;
@@ -20,7 +20,7 @@ use records::{Atom, Condition, Item, Laid, Stretch};
 
 // What an item takes so many times.
 fn atom_of(sheet: Written<'_>, names: &[usize], token: Token) -> Atom
-    ensures { lists.atomOf result ≡ atomOf sheet.entry.text.now (scope_of sheet.entry names.now []) token }
+    ensures { lists.atom_of result ≡ atom_of sheet.entry.text.now (scope_of sheet.entry names.now []) token }
 {
     if token.kind.is(Kind::Name) {
         Atom::Named(slot(sheet, names, token))
@@ -33,8 +33,8 @@ fn atom_of(sheet: Written<'_>, names: &[usize], token: Token) -> Atom
 
 // How often an item is taken, by the factor that is written or not.
 fn factor_of(minus: bool, factor: Option<Token>, token: Token) -> i32
-    requires { factorOf factor token < 1000000 }
-    ensures { result ≡ signed minus (pos (factorOf factor token)) }
+    requires { factor_of factor token < 1000000 }
+    ensures { result ≡ signed minus (pos (factor_of factor token)) }
 {
     let times = match factor {
         Some(written) => written.value,
@@ -80,7 +80,7 @@ fn item_at(sheet: Written<'_>, names: &[usize], minus: bool, at: usize) -> ItemA
 
 // A plus or a minus stands at a position.
 fn is_sign(sheet: Written<'_>, at: usize) -> bool
-    ensures { result ≡ sumSign (look_of (source_of sheet.entry) at) }
+    ensures { result ≡ sum_sign (look_of (source_of sheet.entry) at) }
 {
     let kind = sheet.token(at).kind;
     kind.is(Kind::Plus) || kind.is(Kind::Minus)
@@ -90,10 +90,10 @@ fn is_sign(sheet: Written<'_>, at: usize) -> bool
 fn side_at(sheet: Written<'_>, names: &[usize], at: usize, tables: &mut Laid<'_>) -> usize
     requires fit { Fit sheet }
     requires near { at ≤ 16390 }
-    requires room { length (columns_of tables.old).items.entries + length (sideAt (length sheet.tokens.now) (look_of (source_of sheet)) at).value ≤ (columns_of tables.old).items.room }
-    ensures added { Added lists.item_of (map (item_of sheet.entry.text.now (scope_of sheet.entry names.now [])) (sideAt (length sheet.entry.tokens.now) (look_of (source_of sheet.entry)) at).value) (columns_of tables.old).items.entries (columns_of tables.new).items.entries }
+    requires room { length (columns_of tables.old).items.entries + length (side_at (length sheet.tokens.now) (look_of (source_of sheet)) at).value ≤ (columns_of tables.old).items.room }
+    ensures added { Added lists.item_of (map (item_of sheet.entry.text.now (scope_of sheet.entry names.now [])) (side_at (length sheet.entry.tokens.now) (look_of (source_of sheet.entry)) at).value) (columns_of tables.old).items.entries (columns_of tables.new).items.entries }
     ensures others { ItemsAlone (columns_of tables.old) (columns_of tables.new) }
-    ensures next { result ≡ (sideAt (length sheet.entry.tokens.now) (look_of (source_of sheet.entry)) at).next }
+    ensures next { result ≡ (side_at (length sheet.entry.tokens.now) (look_of (source_of sheet.entry)) at).next }
     ensures near { result ≤ max at 16384 + 3 }
 {
     let first = item_at(sheet, names, false, at);
@@ -119,11 +119,11 @@ fn condition_at(
 ) -> ConditionAt
     requires fit { Fit sheet }
     requires near { at ≤ 16384 }
-    requires room { length (columns_of tables.old).items.entries + conditionWeight (conditionAt (length sheet.tokens.now) (look_of (source_of sheet)) at).value ≤ (columns_of tables.old).items.room }
-    ensures formed { Formed (conditionOf sheet.entry.text.now (scope_of sheet.entry names.now []) (conditionAt (length sheet.entry.tokens.now) (look_of (source_of sheet.entry)) at).value) result.condition (columns_of tables.old).items.entries (columns_of tables.new).items.entries }
-    ensures size { length (columns_of tables.new).items.entries ≤ length (columns_of tables.old).items.entries + conditionWeight (conditionAt (length sheet.entry.tokens.now) (look_of (source_of sheet.entry)) at).value }
+    requires room { length (columns_of tables.old).items.entries + condition_weight (condition_at (length sheet.tokens.now) (look_of (source_of sheet)) at).value ≤ (columns_of tables.old).items.room }
+    ensures formed { Formed (condition_of sheet.entry.text.now (scope_of sheet.entry names.now []) (condition_at (length sheet.entry.tokens.now) (look_of (source_of sheet.entry)) at).value) result.condition (columns_of tables.old).items.entries (columns_of tables.new).items.entries }
+    ensures size { length (columns_of tables.new).items.entries ≤ length (columns_of tables.old).items.entries + condition_weight (condition_at (length sheet.entry.tokens.now) (look_of (source_of sheet.entry)) at).value }
     ensures others { ItemsAlone (columns_of tables.old) (columns_of tables.new) }
-    ensures next { result.next ≡ (conditionAt (length sheet.entry.tokens.now) (look_of (source_of sheet.entry)) at).next }
+    ensures next { result.next ≡ (condition_at (length sheet.entry.tokens.now) (look_of (source_of sheet.entry)) at).next }
     ensures near { result.next ≤ 16393 }
 {
     let from = tables.items();
@@ -149,11 +149,11 @@ pub(crate) fn conditions_at(
     tables: &mut Laid<'_>,
 ) -> Stretch
     requires fit { Fit sheet }
-    requires conditions { length (columns_of tables.old).conditions.entries + conditionsWeight (conditionsAt (length sheet.tokens.now) (look_of (source_of sheet)) at).value ≤ (columns_of tables.old).conditions.room }
-    requires items { length (columns_of tables.old).items.entries + conditionsWeight (conditionsAt (length sheet.tokens.now) (look_of (source_of sheet)) at).value ≤ (columns_of tables.old).items.room }
-    ensures listing { Listing (conditionsOf sheet.entry.text.now (scope_of sheet.entry names.now []) (conditionsAt (length sheet.entry.tokens.now) (look_of (source_of sheet.entry)) at).value) (columns_of tables.old).conditions.entries (columns_of tables.new).conditions.entries (columns_of tables.old).items.entries (columns_of tables.new).items.entries }
+    requires conditions { length (columns_of tables.old).conditions.entries + conditions_weight (conditions_at (length sheet.tokens.now) (look_of (source_of sheet)) at).value ≤ (columns_of tables.old).conditions.room }
+    requires items { length (columns_of tables.old).items.entries + conditions_weight (conditions_at (length sheet.tokens.now) (look_of (source_of sheet)) at).value ≤ (columns_of tables.old).items.room }
+    ensures listing { Listing (conditions_of sheet.entry.text.now (scope_of sheet.entry names.now []) (conditions_at (length sheet.entry.tokens.now) (look_of (source_of sheet.entry)) at).value) (columns_of tables.old).conditions.entries (columns_of tables.new).conditions.entries (columns_of tables.old).items.entries (columns_of tables.new).items.entries }
     ensures stretch { (result.from ≡ length (columns_of tables.old).conditions.entries) × (result.to ≡ length (columns_of tables.new).conditions.entries) }
-    ensures size { length (columns_of tables.new).items.entries ≤ length (columns_of tables.old).items.entries + conditionsWeight (conditionsAt (length sheet.entry.tokens.now) (look_of (source_of sheet.entry)) at).value }
+    ensures size { length (columns_of tables.new).items.entries ≤ length (columns_of tables.old).items.entries + conditions_weight (conditions_at (length sheet.entry.tokens.now) (look_of (source_of sheet.entry)) at).value }
     ensures others { ConditionsAlone (columns_of tables.old) (columns_of tables.new) }
 {
     let from = tables.conditions();
@@ -182,12 +182,12 @@ pub(crate) fn optional_at(
     tables: &mut Laid<'_>,
 ) -> Stretch
     requires fit { Fit sheet }
-    requires keyword { sameKind Kind.End keyword ≡ false }
-    requires conditions { length (columns_of tables.old).conditions.entries + conditionsWeight (optionalAt (length sheet.tokens.now) (look_of (source_of sheet)) keyword at) ≤ (columns_of tables.old).conditions.room }
-    requires items { length (columns_of tables.old).items.entries + conditionsWeight (optionalAt (length sheet.tokens.now) (look_of (source_of sheet)) keyword at) ≤ (columns_of tables.old).items.room }
-    ensures listing { Listing (conditionsOf sheet.entry.text.now (scope_of sheet.entry names.now []) (optionalAt (length sheet.entry.tokens.now) (look_of (source_of sheet.entry)) keyword at)) (columns_of tables.old).conditions.entries (columns_of tables.new).conditions.entries (columns_of tables.old).items.entries (columns_of tables.new).items.entries }
+    requires keyword { same_kind Kind.End keyword ≡ false }
+    requires conditions { length (columns_of tables.old).conditions.entries + conditions_weight (optional_at (length sheet.tokens.now) (look_of (source_of sheet)) keyword at) ≤ (columns_of tables.old).conditions.room }
+    requires items { length (columns_of tables.old).items.entries + conditions_weight (optional_at (length sheet.tokens.now) (look_of (source_of sheet)) keyword at) ≤ (columns_of tables.old).items.room }
+    ensures listing { Listing (conditions_of sheet.entry.text.now (scope_of sheet.entry names.now []) (optional_at (length sheet.entry.tokens.now) (look_of (source_of sheet.entry)) keyword at)) (columns_of tables.old).conditions.entries (columns_of tables.new).conditions.entries (columns_of tables.old).items.entries (columns_of tables.new).items.entries }
     ensures stretch { (result.from ≡ length (columns_of tables.old).conditions.entries) × (result.to ≡ length (columns_of tables.new).conditions.entries) }
-    ensures size { length (columns_of tables.new).items.entries ≤ length (columns_of tables.old).items.entries + conditionsWeight (optionalAt (length sheet.entry.tokens.now) (look_of (source_of sheet.entry)) keyword at) }
+    ensures size { length (columns_of tables.new).items.entries ≤ length (columns_of tables.old).items.entries + conditions_weight (optional_at (length sheet.entry.tokens.now) (look_of (source_of sheet.entry)) keyword at) }
     ensures others { ConditionsAlone (columns_of tables.old) (columns_of tables.new) }
 {
     if sheet.token(at).kind.is(keyword) {

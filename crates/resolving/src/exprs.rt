@@ -1,10 +1,10 @@
 ghost use Rattle.std.specs.Prelude.{◌≡◌, ◌+◌, ◌≤◌, map, length};
 ghost use Rattle.grammar.specs.Raw as raw;
-ghost use Rattle.grammar.specs.Trees.{rawAt, argsAt};
-ghost use Rattle.syntax.specs.Weights.{exprWeight, argsWeight};
+ghost use Rattle.grammar.specs.Trees.{raw_at, args_at};
+ghost use Rattle.syntax.specs.Weights.{expr_weight, args_weight};
 ghost use Rattle.pile.specs.Entries.{entries, room};
-ghost use Rattle.naming.specs.Reaches.{tokensOf, scope_of, sheetOf};
-ghost use Rattle.naming.specs.Sources.{source_of, rulesOf};
+ghost use Rattle.naming.specs.Reaches.{tokens_of, scope_of, sheet_of};
+ghost use Rattle.naming.specs.Sources.{source_of, rules_of};
 ghost use Rattle.resolving.specs.Making.{Fit};
 ghost use Rattle.records.specs.Laying.{columns_of};
 ghost use Rattle.resolving.specs.Growing.{Roomy, ExprMade, ArgsMade};
@@ -28,10 +28,10 @@ pub(crate) fn expr(
     tables: &mut Laid<'_>,
 ) -> usize
     requires fit { Fit context.now.sheet }
-    requires rules { tokensOf context.now.sheet context.now.rules.now ≡ map (λ (r : raw.Rule). r.name) (rulesOf context.now.sheet) }
+    requires rules { tokens_of context.now.sheet context.now.rules.now ≡ map (λ (r : raw.Rule). r.name) (rules_of context.now.sheet) }
     requires names { length (entries names.old) + top ≤ room names.old }
-    requires roomy { Roomy (exprWeight (rawAt (source_of context.now.sheet) top context.now.sheet.nodes.now at)) (columns_of tables.old) }
-    ensures made { ExprMade (sheetOf context.now.sheet) (scope_of context.now.sheet (entries names.old) context.now.lists.now) (rawAt (source_of context.now.sheet) top context.now.sheet.nodes.now at) result (columns_of tables.old) (columns_of tables.new) }
+    requires roomy { Roomy (expr_weight (raw_at (source_of context.now.sheet) top context.now.sheet.nodes.now at)) (columns_of tables.old) }
+    ensures made { ExprMade (sheet_of context.now.sheet) (scope_of context.now.sheet (entries names.old) context.now.lists.now) (raw_at (source_of context.now.sheet) top context.now.sheet.nodes.now at) result (columns_of tables.old) (columns_of tables.new) }
     ensures names { (entries names.new ≡ entries names.old) × (room names.new ≡ room names.old) }
 {
     let sheet = context.sheet;
@@ -166,10 +166,10 @@ fn arguments(
     tables: &mut Laid<'_>,
 ) -> usize
     requires fit { Fit context.now.sheet }
-    requires rules { tokensOf context.now.sheet context.now.rules.now ≡ map (λ (r : raw.Rule). r.name) (rulesOf context.now.sheet) }
+    requires rules { tokens_of context.now.sheet context.now.rules.now ≡ map (λ (r : raw.Rule). r.name) (rules_of context.now.sheet) }
     requires names { length (entries names.old) + top ≤ room names.old }
-    requires roomy { Roomy (argsWeight (argsAt (source_of context.now.sheet) top context.now.sheet.nodes.now at)) (columns_of tables.old) }
-    ensures made { ArgsMade (sheetOf context.now.sheet) (scope_of context.now.sheet (entries names.old) context.now.lists.now) (argsAt (source_of context.now.sheet) top context.now.sheet.nodes.now at) after result (columns_of tables.old) (columns_of tables.new) }
+    requires roomy { Roomy (args_weight (args_at (source_of context.now.sheet) top context.now.sheet.nodes.now at)) (columns_of tables.old) }
+    ensures made { ArgsMade (sheet_of context.now.sheet) (scope_of context.now.sheet (entries names.old) context.now.lists.now) (args_at (source_of context.now.sheet) top context.now.sheet.nodes.now at) after result (columns_of tables.old) (columns_of tables.new) }
     ensures names { (entries names.new ≡ entries names.old) × (room names.new ≡ room names.old) }
 {
     match context.sheet.last(top, at) {
@@ -192,10 +192,10 @@ fn argument(
     tables: &mut Laid<'_>,
 ) -> usize
     requires fit { Fit context.now.sheet }
-    requires rules { tokensOf context.now.sheet context.now.rules.now ≡ map (λ (r : raw.Rule). r.name) (rulesOf context.now.sheet) }
+    requires rules { tokens_of context.now.sheet context.now.rules.now ≡ map (λ (r : raw.Rule). r.name) (rules_of context.now.sheet) }
     requires names { length (entries names.old) + top ≤ room names.old }
-    requires roomy { Roomy (exprWeight (rawAt (source_of context.now.sheet) top context.now.sheet.nodes.now at) + 1) (columns_of tables.old) }
-    ensures made { ArgsMade (sheetOf context.now.sheet) (scope_of context.now.sheet (entries names.old) context.now.lists.now) (raw.more raw.none (rawAt (source_of context.now.sheet) top context.now.sheet.nodes.now at)) after result (columns_of tables.old) (columns_of tables.new) }
+    requires roomy { Roomy (expr_weight (raw_at (source_of context.now.sheet) top context.now.sheet.nodes.now at) + 1) (columns_of tables.old) }
+    ensures made { ArgsMade (sheet_of context.now.sheet) (scope_of context.now.sheet (entries names.old) context.now.lists.now) (raw.more raw.none (raw_at (source_of context.now.sheet) top context.now.sheet.nodes.now at)) after result (columns_of tables.old) (columns_of tables.new) }
     ensures names { (entries names.new ≡ entries names.old) × (room names.new ≡ room names.old) }
 {
     match bare(context.sheet, context.lists, top, at) {

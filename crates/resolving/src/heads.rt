@@ -5,14 +5,14 @@ ghost use Rattle.naming.specs.Sources.{source_of};
 ghost use Rattle.naming.specs.Stretching.{left, written};
 ghost use Rattle.records.specs.Tables as lists;
 ghost use Rattle.resolving.specs.Making.{Added, ParamsAlone};
-ghost use Rattle.resolving.specs.Resolving.{paramOf};
+ghost use Rattle.resolving.specs.Resolving.{param_of};
 
 use naming::{Head, Param as Declared, Written};
 use records::{Laid, Param, Stretch};
 
 // A parameter is a list where it has a length.
 fn sort_of(sheet: Written<'_>, param: Declared) -> Param
-    ensures { lists.paramOf result ≡ paramOf (written (look_of (source_of sheet.entry)) param) }
+    ensures { lists.param_of result ≡ param_of (written (look_of (source_of sheet.entry)) param) }
 {
     match param.length {
         Some(_) => Param::List,
@@ -23,7 +23,7 @@ fn sort_of(sheet: Written<'_>, param: Declared) -> Param
 // The parameters of a head go into their table; where they lie is given.
 pub(crate) fn params_at(sheet: Written<'_>, head: Head, tables: &mut Laid<'_>) -> Stretch
     requires { length (columns_of tables.old).params.entries + length (left (look_of (source_of sheet)) head) ≤ (columns_of tables.old).params.room }
-    ensures added { Added lists.paramOf (map paramOf (left (look_of (source_of sheet.entry)) head)) (columns_of tables.old).params.entries (columns_of tables.new).params.entries }
+    ensures added { Added lists.param_of (map param_of (left (look_of (source_of sheet.entry)) head)) (columns_of tables.old).params.entries (columns_of tables.new).params.entries }
     ensures stretch { (result.from ≡ length (columns_of tables.old).params.entries) × (result.to ≡ length (columns_of tables.new).params.entries) }
     ensures others { ParamsAlone (columns_of tables.old) (columns_of tables.new) }
 {

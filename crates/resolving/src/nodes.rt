@@ -1,9 +1,9 @@
 ghost use Rattle.std.specs.Prelude.{◌≡◌, ◌<◌, ◌≤◌, [], ◌∷◌, ◌++◌, length};
-ghost use Rattle.grammar.specs.Trees.{look_of, rawAt};
+ghost use Rattle.grammar.specs.Trees.{look_of, raw_at};
 ghost use Rattle.records.specs.Laying.{columns_of};
 ghost use Rattle.resolving.specs.Growing.{added};
-ghost use Rattle.naming.specs.Faults.{bareList};
-ghost use Rattle.naming.specs.Reaches.{tokensOf};
+ghost use Rattle.naming.specs.Faults.{bare_list};
+ghost use Rattle.naming.specs.Reaches.{tokens_of};
 ghost use Rattle.naming.specs.Sources.{source_of};
 
 use crate::lookups::find;
@@ -30,7 +30,7 @@ pub(crate) fn place(sheet: Written<'_>, token: usize) -> usize
 
 // The list whose bare name stands at a position, by its slot.
 pub(crate) fn bare(sheet: Written<'_>, lists: &[usize], top: usize, at: usize) -> Option<usize>
-    ensures { result ≡ bareList sheet.entry.text.now (tokensOf sheet.entry lists.now) (rawAt (source_of sheet.entry) top sheet.entry.nodes.now at) }
+    ensures { result ≡ bare_list sheet.entry.text.now (tokens_of sheet.entry lists.now) (raw_at (source_of sheet.entry) top sheet.entry.nodes.now at) }
 {
     match sheet.name(top, at) {
         Some(name) => find(sheet, lists, sheet.token(name)),

@@ -1,13 +1,13 @@
 ghost use Rattle.std.specs.Prelude.{◌≡◌, ◌+◌, ◌≤◌, false, [], map, length};
 ghost use Rattle.grammar.specs.Raw as raw;
-ghost use Rattle.syntax.specs.Weights.{ruleWeight, weightOf};
+ghost use Rattle.syntax.specs.Weights.{rule_weight, weight_of};
 ghost use Rattle.pile.specs.Entries.{entries, room};
-ghost use Rattle.naming.specs.Reaches.{tokensOf, sheetOf};
-ghost use Rattle.naming.specs.Sources.{rulesOf};
+ghost use Rattle.naming.specs.Reaches.{tokens_of, sheet_of};
+ghost use Rattle.naming.specs.Sources.{rules_of};
 ghost use Rattle.resolving.specs.Making.{Fit};
 ghost use Rattle.records.specs.Laying.{columns_of};
 ghost use Rattle.resolving.specs.Growing.{Roomy};
-ghost use Rattle.resolving.specs.Ruling.{ruleBy, RuleMade, RulesMade, Empty, Ample, SameRooms};
+ghost use Rattle.resolving.specs.Ruling.{rule_by, RuleMade, RulesMade, Empty, Ample, SameRooms};
 
 use crate::conditions::optional_at;
 use crate::context::Context;
@@ -30,13 +30,13 @@ fn rule(
     tables: &mut Laid<'_>,
 ) -> Entry
     requires fit { Fit sheet }
-    requires rules { tokensOf sheet rules.now ≡ map (λ (r : raw.Rule). r.name) (rulesOf sheet) }
+    requires rules { tokens_of sheet rules.now ≡ map (λ (r : raw.Rule). r.name) (rules_of sheet) }
     requires top { top ≤ 16384 }
     requires names { 32769 ≤ room names.old }
     requires lists { 16385 ≤ room lists.old }
-    requires roomy { Roomy (ruleWeight (ruleBy sheet top ruled)) (columns_of tables.old) }
-    requires params { length (columns_of tables.old).params.entries + ruleWeight (ruleBy sheet top ruled) ≤ (columns_of tables.old).params.room }
-    ensures made { RuleMade (sheetOf sheet.entry) (ruleBy sheet.entry top ruled) result (columns_of tables.old) (columns_of tables.new) }
+    requires roomy { Roomy (rule_weight (rule_by sheet top ruled)) (columns_of tables.old) }
+    requires params { length (columns_of tables.old).params.entries + rule_weight (rule_by sheet top ruled) ≤ (columns_of tables.old).params.room }
+    ensures made { RuleMade (sheet_of sheet.entry) (rule_by sheet.entry top ruled) result (columns_of tables.old) (columns_of tables.new) }
     ensures room { (room names.new ≡ room names.old) × (room lists.new ≡ room lists.old) }
 {
     names.fall_back(0);
@@ -63,7 +63,7 @@ fn rule(
 // The tokens of the rules' names, in the order of the rules.
 fn rule_names(sheet: Written<'_>, names: &mut Pile<'_, usize>)
     requires { 16384 ≤ room names.old }
-    ensures { tokensOf sheet.entry (entries names.new) ≡ map (λ (r : raw.Rule). r.name) (rulesOf sheet.entry) }
+    ensures { tokens_of sheet.entry (entries names.new) ≡ map (λ (r : raw.Rule). r.name) (rules_of sheet.entry) }
 {
     names.fall_back(0);
     for at in 0..sheet.nodes.len() {
@@ -82,12 +82,12 @@ fn all_rules(
     tables: &mut Laid<'_>,
 )
     requires fit { Fit sheet }
-    requires rules { tokensOf sheet rules.now ≡ map (λ (r : raw.Rule). r.name) (rulesOf sheet) }
+    requires rules { tokens_of sheet rules.now ≡ map (λ (r : raw.Rule). r.name) (rules_of sheet) }
     requires names { 32769 ≤ room names.old }
     requires lists { 16385 ≤ room lists.old }
     requires empty { Empty (columns_of tables.old) }
-    requires ample { Ample (weightOf (rulesOf sheet)) (columns_of tables.old) }
-    ensures made { RulesMade (sheetOf sheet.entry) (rulesOf sheet.entry) (columns_of tables.new) }
+    requires ample { Ample (weight_of (rules_of sheet)) (columns_of tables.old) }
+    ensures made { RulesMade (sheet_of sheet.entry) (rules_of sheet.entry) (columns_of tables.new) }
     ensures rooms { SameRooms (columns_of tables.old) (columns_of tables.new) }
 {
     for at in 0..sheet.nodes.len() {
@@ -102,8 +102,8 @@ fn all_rules(
 pub fn resolve(sheet: Written<'_>, tables: &mut Laid<'_>)
     requires fit { Fit sheet }
     requires empty { Empty (columns_of tables.old) }
-    requires ample { Ample (weightOf (rulesOf sheet)) (columns_of tables.old) }
-    ensures made { RulesMade (sheetOf sheet.entry) (rulesOf sheet.entry) (columns_of tables.new) }
+    requires ample { Ample (weight_of (rules_of sheet)) (columns_of tables.old) }
+    ensures made { RulesMade (sheet_of sheet.entry) (rules_of sheet.entry) (columns_of tables.new) }
     ensures rooms { SameRooms (columns_of tables.old) (columns_of tables.new) }
 {
     let mut rule_room = [0; 16384];

@@ -1,12 +1,12 @@
 ghost use Rattle.std.specs.Prelude.{◌≡◌};
-ghost use Rattle.resolving.specs.Resolving.{operatorOf, comparisonOf};
+ghost use Rattle.resolving.specs.Resolving.{operator_of, comparison_of};
 
 use language::{Comparison, Operator};
 use letters::Kind;
 
 // The operator that a sign stands for.
 pub(crate) fn operator_of(kind: Kind) -> Operator
-    ensures { result ≡ operatorOf kind }
+    ensures { result ≡ operator_of kind }
 {
     if kind.is(Kind::Plus) {
         Operator::Sum
@@ -19,7 +19,7 @@ pub(crate) fn operator_of(kind: Kind) -> Operator
 
 // The comparison that a sign stands for.
 pub(crate) fn comparison_of(kind: Kind) -> Comparison
-    ensures { result ≡ comparisonOf kind }
+    ensures { result ≡ comparison_of kind }
 {
     if kind.is(Kind::Less) {
         Comparison::Less

@@ -6,28 +6,28 @@ use Rattle.std.proofs.lemmas.Int.{ints}
 use Rattle.std.proofs.lemmas.Bool.{and_parts}
 use Rattle.ints.specs.Sums.{Near}
 use Rattle.rows.specs.declared.row.Row.{Row}
-use Rattle.rows.specs.Limits.{small, allSmall}
+use Rattle.rows.specs.Limits.{small, all_small}
 use Rattle.rows.specs.Meaning.{coef}
 
 pub small_is : (z : ℤ) → small z ≡ true → Near 4000000 z
 small_is z h = let p = and_parts (le_z (negsuc 3999999) z) (le_z z (pos 4000000)) h in (omega (arith, ints), omega (arith, ints))
 
-small_at : (zs : List ℤ) (j : ℕ) → allSmall zs ≡ true → Near 4000000 (get_or zs j (pos 0))
-unfolding allSmall
+small_at : (zs : List ℤ) (j : ℕ) → all_small zs ≡ true → Near 4000000 (get_or zs j (pos 0))
+unfolding all_small
 small_at [] j h = (omega (arith, ints), omega (arith, ints))
 small_at (z ∷ zs) zero h = small_is z (and_parts _ _ h).0
 small_at (z ∷ zs) (suc j) h = small_at zs j (and_parts _ _ h).1
 
 pub coef-near : (r : Row) (j : ℕ) → Near 4000000 (coef r j)
-coef-near r j = small_at r.coefs j (and_parts (small r.bound) (allSmall r.coefs) r.ok).1
+coef-near r j = small_at r.coefs j (and_parts (small r.bound) (all_small r.coefs) r.ok).1
 
 pub bound-near : (r : Row) → Near 4000000 r.bound
-bound-near r = small_is r.bound (and_parts (small r.bound) (allSmall r.coefs) r.ok).0
+bound-near r = small_is r.bound (and_parts (small r.bound) (all_small r.coefs) r.ok).0
 
-pub small-more : (zs : List ℤ) (i : ℕ) → i < length zs → allSmall (drop i zs) ≡ (small (get_or zs i (pos 0)) && allSmall (drop (i + 1) zs))
-unfolding allSmall
-small-more zs i h = ap allSmall (drop_more zs i (pos 0) h)
+pub small-more : (zs : List ℤ) (i : ℕ) → i < length zs → all_small (drop i zs) ≡ (small (get_or zs i (pos 0)) && all_small (drop (i + 1) zs))
+unfolding all_small
+small-more zs i h = ap all_small (drop_more zs i (pos 0) h)
 
-pub small_all : (zs : List ℤ) (i : ℕ) → length zs ≤ i → allSmall (drop i zs) ≡ true
-unfolding allSmall
-small_all zs i h = ap allSmall (drop_all i zs h)
+pub small_all : (zs : List ℤ) (i : ℕ) → length zs ≤ i → all_small (drop i zs) ≡ true
+unfolding all_small
+small_all zs i h = ap all_small (drop_all i zs h)

@@ -5,10 +5,10 @@ use Rattle.std.proofs.lemmas.Bool.{both_ways}
 use Rattle.rows.specs.declared.row.Row.{Row}
 use Rattle.rows.specs.declared.row.Kind.{Kind}
 use Rattle.rows.specs.Limits.{fits}
-use Rattle.rows.specs.Rows.{rowIf, row_of}
+use Rattle.rows.specs.Rows.{row_if, row_of}
 
 module _ (cs : List ℤ) (b : ℤ) (k : Kind) where
-  some-if : (t : Bool) (h : fits cs b ≡ t) (e : fits cs b ≡ true) → Some (record { coefs = cs; bound = b; kind = k; ok = e }) ≡ rowIf cs b k t h
+  some-if : (t : Bool) (h : fits cs b ≡ t) (e : fits cs b ≡ true) → Some (record { coefs = cs; bound = b; kind = k; ok = e }) ≡ row_if cs b k t h
   some-if true h e = ap (λ (p : fits cs b ≡ true). Some (record { coefs = cs; bound = b; kind = k; ok = p })) (Bool-set _ _ e h)
   some-if false h e = absurd (both_ways _ h e)
 
@@ -16,7 +16,7 @@ module _ (cs : List ℤ) (b : ℤ) (k : Kind) where
   unfolding row_of
   made_some e = some-if (fits cs b) refl e
 
-  none-if : (t : Bool) (h : fits cs b ≡ t) → fits cs b ≡ false → None ≡ rowIf cs b k t h
+  none-if : (t : Bool) (h : fits cs b ≡ t) → fits cs b ≡ false → None ≡ row_if cs b k t h
   none-if true h e = absurd (both_ways _ e h)
   none-if false h e = refl
 
@@ -24,7 +24,7 @@ module _ (cs : List ℤ) (b : ℤ) (k : Kind) where
   unfolding row_of
   made_none e = none-if (fits cs b) refl e
 
-  fields-if : (t : Bool) (h : fits cs b ≡ t) (r : Row) → rowIf cs b k t h ≡ Some r → (r.coefs ≡ cs) × (r.bound ≡ b) × (r.kind ≡ k)
+  fields-if : (t : Bool) (h : fits cs b ≡ t) (r : Row) → row_if cs b k t h ≡ Some r → (r.coefs ≡ cs) × (r.bound ≡ b) × (r.kind ≡ k)
   fields-if true h r e =
       let p : record { coefs = cs; bound = b; kind = k; ok = h } ≡ r = cc in
       (sym (ap (λ (s : Row). s.coefs) p), sym (ap (λ (s : Row). s.bound) p), sym (ap (λ (s : Row). s.kind) p))

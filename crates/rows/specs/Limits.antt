@@ -4,9 +4,9 @@ use Rattle.std.specs.Prelude.{Bool, true, ◌&&◌, List, [], ◌∷◌, ℤ, po
 abbrev pub small : ℤ → Bool
 small z = int_le (negsuc 3999999) z && int_le z (pos 4000000)
 
-unfoldable pub allSmall : List ℤ → Bool
-allSmall [] = true
-allSmall (z ∷ zs) = small z && allSmall zs
+unfoldable pub all_small : List ℤ → Bool
+all_small [] = true
+all_small (z ∷ zs) = small z && all_small zs
 
 abbrev pub fits : List ℤ → ℤ → Bool
-fits coefs bound = small bound && allSmall coefs
+fits coefs bound = small bound && all_small coefs

@@ -4,9 +4,9 @@ use Rattle.rows.specs.declared.row.Row.{Row}
 use Rattle.rows.specs.declared.row.Kind.{Kind}
 use Rattle.rows.specs.declared.row.Kind.TheVariants.{AtMost, Unequal}
 
-abbrev pub isAtMost : Kind → Bool
-isAtMost AtMost = true
-isAtMost Unequal = false
+abbrev pub is_at_most : Kind → Bool
+is_at_most AtMost = true
+is_at_most Unequal = false
 
-abbrev pub wellShaped : List Row → Row → Bool
-wellShaped facts goal = nat_le (length facts) 24 && isAtMost goal.kind
+abbrev pub well_shaped : List Row → Row → Bool
+well_shaped facts goal = nat_le (length facts) 24 && is_at_most goal.kind

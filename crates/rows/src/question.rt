@@ -1,5 +1,5 @@
 ghost use Rattle.std.specs.Prelude.{◌≡◌};
-ghost use Rattle.rows.specs.Questions.{wellShaped};
+ghost use Rattle.rows.specs.Questions.{well_shaped};
 
 use crate::row::{Kind, Row};
 
@@ -16,7 +16,7 @@ pub struct Question<'a> {
 impl Question<'_> {
     // No more than 24 facts, and a goal of kind at most.
     pub fn well_shaped(self) -> bool
-        ensures { result ≡ wellShaped self.entry.facts.now self.entry.goal.now }
+        ensures { result ≡ well_shaped self.entry.facts.now self.entry.goal.now }
     {
         self.facts.len() <= MOST_FACTS && matches!(self.goal.kind(), Kind::AtMost)
     }

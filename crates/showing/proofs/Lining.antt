@@ -4,30 +4,30 @@ use Rattle.std.specs.List.{suffix_len}
 use Rattle.std.proofs.lemmas.List.Sums.{suffix_len-take_yes, suffix_len-take_no, prefix_len-drop_yes, prefix_len-drop_no, prefix_len-drop_all}
 use Rattle.std.proofs.lemmas.Bool.{ne_eqb, eq-eqb, not_from_false, not_from_true, cases_eq, cases_lt, cond_both, and_parts, ltb-true, eqb-true}
 use Rattle.showing.specs.declared.line.Line.{Line}
-use Rattle.showing.specs.Lines.{ofLine, start_of, feedOf, shownTo, line_here, line_of, Ends, Stands}
+use Rattle.showing.specs.Lines.{of_line, start_of, feed_of, shown_to, line_here, line_of, Ends, Stands}
 
 module _ (text : List ℕ) where
   pub start_back : (s m : ℕ) → s ≡ m + 1 → m < length text → (get_or text m 0 ≡ 10 → ⊥) → start_of text s ≡ start_of text m
   start_back s m h k n =
       let q : s - 1 ≡ m = omega arith in
-      let e = suffix_len-take_yes ofLine text s 0 (omega arith) (omega arith) (not_from_false _ (ne_eqb _ 10 (λ z. n (subst (λ i. get_or text i 0 ≡ 10) q z)))) in
-      let f = ap (λ i. suffix_len ofLine (take i text)) q in
+      let e = suffix_len-take_yes of_line text s 0 (omega arith) (omega arith) (not_from_false _ (ne_eqb _ 10 (λ z. n (subst (λ i. get_or text i 0 ≡ 10) q z)))) in
+      let f = ap (λ i. suffix_len of_line (take i text)) q in
       omega arith
 
   pub start-here : (s m : ℕ) → s ≡ m + 1 → m < length text → get_or text m 0 ≡ 10 → start_of text s ≡ s
   start-here s m h k n =
       let q : s - 1 ≡ m = omega arith in
-      let e = suffix_len-take_no ofLine text s 0 (omega arith) (omega arith) (not_from_true _ (eq-eqb _ 10 (subst (λ i. get_or text i 0 ≡ 10) (sym q) n))) in
+      let e = suffix_len-take_no of_line text s 0 (omega arith) (omega arith) (not_from_true _ (eq-eqb _ 10 (subst (λ i. get_or text i 0 ≡ 10) (sym q) n))) in
       omega arith
 
-  pub feed-on : (f : ℕ) → f < length text → (get_or text f 0 ≡ 10 → ⊥) → feedOf text f ≡ feedOf text (f + 1)
-  feed-on f h n = let e = prefix_len-drop_yes ofLine text f 0 h (not_from_false _ (ne_eqb _ 10 n)) in omega arith
+  pub feed-on : (f : ℕ) → f < length text → (get_or text f 0 ≡ 10 → ⊥) → feed_of text f ≡ feed_of text (f + 1)
+  feed-on f h n = let e = prefix_len-drop_yes of_line text f 0 h (not_from_false _ (ne_eqb _ 10 n)) in omega arith
 
-  pub feed-here : (f : ℕ) → f < length text → get_or text f 0 ≡ 10 → feedOf text f ≡ f
-  feed-here f h n = let e = prefix_len-drop_no ofLine text f 0 h (not_from_true _ (eq-eqb _ 10 n)) in omega arith
+  pub feed-here : (f : ℕ) → f < length text → get_or text f 0 ≡ 10 → feed_of text f ≡ f
+  feed-here f h n = let e = prefix_len-drop_no of_line text f 0 h (not_from_true _ (eq-eqb _ 10 n)) in omega arith
 
-  pub feed-end : (f : ℕ) → length text ≤ f → feedOf text f ≡ f
-  feed-end f h = let e = prefix_len-drop_all ofLine text f h in omega arith
+  pub feed-end : (f : ℕ) → length text ≤ f → feed_of text f ≡ f
+  feed-end f h = let e = prefix_len-drop_all of_line text f h in omega arith
 
   start_first : (n : ℕ) → n ≤ length text → (start_of text n ≡ 0) ⊎ (get_or text (start_of text n - 1) 0 ≡ 10)
   start_first zero h = inl (omega arith)
@@ -46,9 +46,9 @@ module _ (text : List ℕ) where
 
   -- the line feed at or after a place, d bytes before the text's end
   record Fed (f : ℕ) : Type 0 where
-    within : feedOf text f ≤ length text
-    ends : (feedOf text f ≡ length text) ⊎ (get_or text (feedOf text f) 0 ≡ 10)
-    inside : (k : ℕ) → f ≤ k → k < feedOf text f → get_or text k 0 ≡ 10 → ⊥
+    within : feed_of text f ≤ length text
+    ends : (feed_of text f ≡ length text) ⊎ (get_or text (feed_of text f) 0 ≡ 10)
+    inside : (k : ℕ) → f ≤ k → k < feed_of text f → get_or text k 0 ≡ 10 → ⊥
 
   fed : (d f : ℕ) → f + d ≡ length text → Fed f
   fed zero f h = let e = feed-end f (omega arith) in record { within = omega arith; ends = inl (omega arith); inside = λ k a b _. omega arith }
@@ -64,7 +64,7 @@ module _ (text : List ℕ) where
         }
   ]
 
-  pub feed-within : (f : ℕ) → f ≤ length text → feedOf text f ≤ length text
+  pub feed-within : (f : ℕ) → f ≤ length text → feed_of text f ≤ length text
   feed-within f h = (fed (length text - f) f (omega arith)).within
 
   -- without a carriage return before the line feed
@@ -72,7 +72,7 @@ module _ (text : List ℕ) where
     reaches : (start ≤ end) × (end ≤ feed) × (feed ≤ end + 1)
     ends : Ends text end
 
-  shown : (start feed : ℕ) → start ≤ feed → (feed ≡ length text) ⊎ (get_or text feed 0 ≡ 10) → Shown start feed (shownTo text start feed)
+  shown : (start feed : ℕ) → start ≤ feed → (feed ≡ length text) ⊎ (get_or text feed 0 ≡ 10) → Shown start feed (shown_to text start feed)
   shown start feed h f = cond_both (ltb start feed && (ltb feed (length text) && eqb (get_or text (feed - 1) 0) 13)) (feed - 1) feed (Shown start feed)
       (λ t.
       let p = and_parts _ _ t in
@@ -87,7 +87,7 @@ module _ (text : List ℕ) where
   stands : (place : ℕ) → place ≤ length text → Stands text place (line_here text place)
   stands place h =
       let f = fed (length text - place) place (omega arith) in
-      let s = shown (start_of text place) (feedOf text place) (omega arith) f.ends in
+      let s = shown (start_of text place) (feed_of text place) (omega arith) f.ends in
       record {
         number = refl;
         column = omega arith;

@@ -5,7 +5,7 @@ use Rattle.std.proofs.lemmas.List.Sums.{sum_by-drop_more}
 use Rattle.std.proofs.lemmas.Bool.{cond-true, cond-false}
 use Rattle.letters.specs.declared.kind.Kind.{Kind}
 use Rattle.letters.specs.Every.{kinds}
-use Rattle.showing.specs.Kinds.{kindText, joint, listed}
+use Rattle.showing.specs.Kinds.{kind_text, joint, listed}
 
 pub all_kinds : length kinds ≡ 28
 unfolding kinds
@@ -18,7 +18,7 @@ module _ (p : Kind → Bool) (xs : List Kind) (i : ℕ) (d : Kind) (h : i < leng
   count_no : p (get_or xs i d) ≡ false → count_by p (drop i xs) ≡ 0 + count_by p (drop (i + 1) xs)
   count_no e = sum_by-drop_more (λ x. cond (p x) 1 0) xs i d h ∙ ap (λ b. cond b 1 0 + count_by p (drop (i + 1) xs)) e
 
-  listed-yes : p (get_or xs i d) ≡ true → listed p (drop i xs) ≡ kindText (get_or xs i d) ++ (joint (count_by p (drop (i + 1) xs)) ++ listed p (drop (i + 1) xs))
+  listed-yes : p (get_or xs i d) ≡ true → listed p (drop i xs) ≡ kind_text (get_or xs i d) ++ (joint (count_by p (drop (i + 1) xs)) ++ listed p (drop (i + 1) xs))
   unfolding listed
   listed-yes e = at_drop_more (listed p) xs i d h ∙ cond-true (p (get_or xs i d)) _ _ e
 
@@ -27,13 +27,13 @@ module _ (p : Kind → Bool) (xs : List Kind) (i : ℕ) (d : Kind) (h : i < leng
   listed-no e = at_drop_more (listed p) xs i d h ∙ cond-false (p (get_or xs i d)) _ _ e
 
   -- a turn of the loop that writes them: what is written, followed by what is left, stays the same
-  pub turn-yes : (n : ℕ) (t u whole : List ℕ) → p (get_or xs i d) ≡ true → n ≡ count_by p (drop i xs) → t ++ listed p (drop i xs) ≡ whole → u ≡ t ++ (kindText (get_or xs i d) ++ joint (n - 1))
+  pub turn-yes : (n : ℕ) (t u whole : List ℕ) → p (get_or xs i d) ≡ true → n ≡ count_by p (drop i xs) → t ++ listed p (drop i xs) ≡ whole → u ≡ t ++ (kind_text (get_or xs i d) ++ joint (n - 1))
       → (n - 1 ≡ count_by p (drop (i + 1) xs)) × (u ++ listed p (drop (i + 1) xs) ≡ whole)
   turn-yes n t u whole e a b c =
       let y = count_yes e in
       let left : n - 1 ≡ count_by p (drop (i + 1) xs) = omega arith in
       let rest = listed p (drop (i + 1) xs) in
-      let word = kindText (get_or xs i d) in (
+      let word = kind_text (get_or xs i d) in (
         left,
         ap (λ v. v ++ rest) (c ∙ ap (λ m. t ++ (word ++ joint m)) left)
             ∙ append_assoc t (word ++ joint (count_by p (drop (i + 1) xs))) rest

@@ -3,12 +3,12 @@ use Rattle.std.proofs.Common.{◌≡◌, ℕ, ◌+◌, ◌-◌, ◌<◌, ◌≤�
 use Rattle.std.proofs.lemmas.List.{length-map, length-take, length-drop, get_or-map, get_or-take, get_or-drop}
 use Rattle.std.proofs.lemmas.Bool.{eq-eqb, ne_eqb, cond-true, cond-false, cond_both}
 use Rattle.showing.specs.declared.line.Line.{Line}
-use Rattle.showing.specs.Marks.{blank, blanksTo, Under}
+use Rattle.showing.specs.Marks.{blank, blanks_to, Under}
 
 pub blank-ascii : (b : ℕ) → blank b < 128
 blank-ascii b = cond_both (eqb b 9) 9 32 (λ n. n < 128) (λ _. lit< tt) (λ _. lit< tt)
 
-pub under : (text : List ℕ) (line : Line) → line.start + line.column ≤ length text + 1 → line.start ≤ length text → Under text line (blanksTo text line)
+pub under : (text : List ℕ) (line : Line) → line.start + line.column ≤ length text + 1 → line.start ≤ length text → Under text line (blanks_to text line)
 under text line h g = record {
   width = length-map (take (line.column - 1) (drop line.start text)) blank ∙ size;
   tabs = λ k a e. at k a ∙ cond-true (eqb (get_or text (line.start + k) 0) 9) 9 32 (eq-eqb _ 9 e);

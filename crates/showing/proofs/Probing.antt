@@ -8,14 +8,14 @@ use Rattle.letters.specs.declared.kind.Kind.TheVariants.{Name, End}
 use Rattle.letters.specs.declared.token.Token.{Token}
 use Rattle.letters.specs.Every.{kinds}
 use Rattle.letters.specs.Kinds.{number}
-use Rattle.letters.specs.Tokens.{tokenOf}
+use Rattle.letters.specs.Tokens.{token_of}
 use Rattle.letters.proofs.Numbering.{numbered}
 use Rattle.grammar.specs.declared.node.Node.{Node}
 use Rattle.grammar.specs.declared.unread.Unread.{Unread}
 use Rattle.grammar.specs.declared.unread.Unread.TheVariants.{Full, Fault}
 use Rattle.grammar.specs.Raw.{Sheet}
-use Rattle.grammar.specs.Parsers.{Look, lookIn, fault}
-use Rattle.grammar.specs.Sheets.{sheetS}
+use Rattle.grammar.specs.Parsers.{Look, look_in, fault}
+use Rattle.grammar.specs.Sheets.{sheet_s}
 use Rattle.grammar.specs.Held.{Comes}
 use Rattle.grammar.specs.Parsed.{Parsed}
 use Rattle.syntax.specs.Derives.{DSheet, Upto}
@@ -24,33 +24,33 @@ use Rattle.showing.specs.Probes.{Apart, probed, passed, reads, stops, Tells}
 
 module _ (ts : List Token) (w : ℕ) (k : Kind) (apart : Apart ts w) where
   abbrev probe : Look
-  probe = lookIn (probed ts w k) (w + 1)
+  probe = look_in (probed ts w k) (w + 1)
 
   there : (probe (length ts)).place ≡ w
-  there = ap (λ (t : Token). t.place) (get_or_push ts (tokenOf k w 0 0) (tokenOf End (w + 1) 0 0) (length ts) refl)
+  there = ap (λ (t : Token). t.place) (get_or_push ts (token_of k w 0 0) (token_of End (w + 1) 0 0) (length ts) refl)
 
   -- no other token is at the place
   sole : (j : ℕ) → (probe j).place ≡ w → j ≡ length ts
   sole j e = elim (cases_order j (length ts)) [
     | inl q ↦ q
     | inr (inl q) ↦
-        let a = ap (λ (t : Token). t.place) (get_or_append_left ts (tokenOf k w 0 0 ∷ []) (tokenOf End (w + 1) 0 0) j q) in
-        let b = not-true _ (All-get_or (λ t. not (eqb t.place w) ≡ true) ts j (tokenOf End (w + 1) 0 0) q apart) in
+        let a = ap (λ (t : Token). t.place) (get_or_append_left ts (token_of k w 0 0 ∷ []) (token_of End (w + 1) 0 0) j q) in
+        let b = not-true _ (All-get_or (λ t. not (eqb t.place w) ≡ true) ts j (token_of End (w + 1) 0 0) q apart) in
         absurd (eqb-false _ w b (sym a ∙ e))
     | inr (inr q) ↦
-        let n = length_push ts (tokenOf k w 0 0) in
-        let a = ap (λ (t : Token). t.place) (get_or_past (probed ts w k) j (tokenOf End (w + 1) 0 0) (omega arith)) in
+        let n = length_push ts (token_of k w 0 0) in
+        let a = ap (λ (t : Token). t.place) (get_or_past (probed ts w k) j (token_of End (w + 1) 0 0) (omega arith)) in
         let z : ⊥ = omega arith in absurd z
   ]
 
   pub tells : (r : Result ℕ Unread) (room : ℕ) (ns : List Node) → Parsed r (probed ts w k) (w + 1) room ns → Lawful r (probed ts w k) (w + 1) ns → length ts < room → Tells (passed r w) probe (length ts)
   tells (Ok n) room ns p g h = reads _ p.said.1.last p.said.1.came
-  tells (Err Full) room ns p g h = let n = length_push ts (tokenOf k w 0 0) in let z : ⊥ = omega (arith, p.said) in absurd z
+  tells (Err Full) room ns p g h = let n = length_push ts (token_of k w 0 0) in let z : ⊥ = omega (arith, p.said) in absurd z
   tells (Err (Fault f)) room ns p g h = go (eqb f w) refl
     where
       go : (b : Bool) → eqb f w ≡ b → Tells (not b) probe (length ts)
       go true e = record {
-        came = subst (λ j. Comes sheetS probe 0 (fault j)) (sole p.said.1.faulty (sym p.said.1.place ∙ eqb-true f w e)) p.said.1.came;
+        came = subst (λ j. Comes sheet_s probe 0 (fault j)) (sole p.said.1.faulty (sym p.said.1.place ∙ eqb-true f w e)) p.said.1.came;
         dead = subst (λ j. (m : Look) → Upto j probe m → (rs : Sheet) → DSheet m rs → ⊥) (sole g.faulty (sym g.place ∙ eqb-true f w e)) g.dead;
       }
       go false e = stops p.said.1.faulty (λ q. eqb-false f w e (p.said.1.place ∙ ap (λ j. (probe j).place) q ∙ there)) p.said.1.came

@@ -3,7 +3,7 @@ use Rattle.std.specs.Prelude.{ℕ, Bool, false, cond, List, [], ◌∷◌, ◌++
 use Rattle.letters.specs.declared.kind.Kind.{Kind}
 use Rattle.letters.specs.declared.kind.Kind.TheVariants.{Name, Numeral, End}
 use Rattle.letters.specs.Every.{kinds}
-use Rattle.letters.specs.Kinds.{number, word, sameKind}
+use Rattle.letters.specs.Kinds.{number, word, same_kind}
 use Rattle.showing.specs.declared.kinds.Kinds.{Kinds}
 
 -- a kind is among these
@@ -11,8 +11,8 @@ abbrev pub among : Kinds → Kind → Bool
 among ks k = slice_index_or ks.flags (number k) false
 
 -- a kind in words: a keyword or a sign as it is written, in quotes
-abbrev pub kindText : Kind → List ℕ
-kindText k = cond (sameKind k Name) (codes "a name") (cond (sameKind k Numeral) (codes "a numeral") (cond (sameKind k End) (codes "the end of the text") (codes "\"" ++ (word k ++ codes "\""))))
+abbrev pub kind_text : Kind → List ℕ
+kind_text k = cond (same_kind k Name) (codes "a name") (cond (same_kind k Numeral) (codes "a numeral") (cond (same_kind k End) (codes "the end of the text") (codes "\"" ++ (word k ++ codes "\""))))
 
 -- what stands after a kind, where so many follow
 abbrev pub joint : ℕ → List ℕ
@@ -21,7 +21,7 @@ joint n = cond (n == 0) [] (cond (n == 1) (codes " or ") (codes ", "))
 -- those of the list that are meant, in words
 unfoldable pub listed : (Kind → Bool) → List Kind → List ℕ
 listed p [] = []
-listed p (k ∷ ks) = cond (p k) (kindText k ++ (joint (count_by p ks) ++ listed p ks)) (listed p ks)
+listed p (k ∷ ks) = cond (p k) (kind_text k ++ (joint (count_by p ks) ++ listed p ks)) (listed p ks)
 
-abbrev pub kindsText : Kinds → List ℕ
-kindsText ks = listed (among ks) kinds
+abbrev pub kinds_text : Kinds → List ℕ
+kinds_text ks = listed (among ks) kinds

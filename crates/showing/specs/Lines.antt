@@ -3,29 +3,29 @@ use Rattle.std.specs.Prelude.{◌≡◌, ℕ, ◌+◌, ◌-◌, ◌<◌, ◌≤�
 use Rattle.std.specs.List.{prefix_len, suffix_len}
 use Rattle.showing.specs.declared.line.Line.{Line}
 
-abbrev pub isFeed : ℕ → Bool
-isFeed b = b == 10
+abbrev pub is_feed : ℕ → Bool
+is_feed b = b == 10
 
-abbrev pub ofLine : ℕ → Bool
-ofLine b = not (isFeed b)
+abbrev pub of_line : ℕ → Bool
+of_line b = not (is_feed b)
 
 -- where the line that begins at `start` ends for a reader, whose line feed is at `feed`: before a carriage return
-abbrev pub shownTo : List ℕ → ℕ → ℕ → ℕ
-shownTo text start feed = cond (nat_lt start feed && (nat_lt feed (length text) && slice_index text (feed - 1) == 13)) (feed - 1) feed
+abbrev pub shown_to : List ℕ → ℕ → ℕ → ℕ
+shown_to text start feed = cond (nat_lt start feed && (nat_lt feed (length text) && slice_index text (feed - 1) == 13)) (feed - 1) feed
 
 -- where the line of a byte begins, and where its line feed is, or the text's end
 abbrev pub start_of : List ℕ → ℕ → ℕ
-start_of text place = place - suffix_len ofLine (take place text)
+start_of text place = place - suffix_len of_line (take place text)
 
-abbrev pub feedOf : List ℕ → ℕ → ℕ
-feedOf text place = place + prefix_len ofLine (drop place text)
+abbrev pub feed_of : List ℕ → ℕ → ℕ
+feed_of text place = place + prefix_len of_line (drop place text)
 
 abbrev pub line_here : List ℕ → ℕ → Line
 line_here text place = record {
-  number = count_by isFeed (take place text) + 1;
+  number = count_by is_feed (take place text) + 1;
   column = place - start_of text place + 1;
   start = start_of text place;
-  end = shownTo text (start_of text place) (feedOf text place);
+  end = shown_to text (start_of text place) (feed_of text place);
 }
 
 -- the line in which a byte stands; a place past the text counts as its end
@@ -38,7 +38,7 @@ Ends text e = (e ≡ length text) ⊎ ((slice_index text e ≡ 10) ⊎ ((slice_i
 
 -- a byte stands in this line of a text, or the text's end does
 pub record Stands (text : List ℕ) (place : ℕ) (line : Line) : Type 0 where
-  pub number : line.number ≡ count_by isFeed (take place text) + 1
+  pub number : line.number ≡ count_by is_feed (take place text) + 1
   pub column : line.start + line.column ≡ place + 1
   pub begins : line.start ≤ place
   pub first : (line.start ≡ 0) ⊎ (slice_index text (line.start - 1) ≡ 10)

@@ -7,8 +7,8 @@ abbrev pub blank : ℕ → ℕ
 blank b = cond (b == 9) 9 32
 
 -- a blank for each byte of the line before the column
-abbrev pub blanksTo : List ℕ → Line → List ℕ
-blanksTo text line = map blank (take (line.column - 1) (drop line.start text))
+abbrev pub blanks_to : List ℕ → Line → List ℕ
+blanks_to text line = map blank (take (line.column - 1) (drop line.start text))
 
 -- these stand under the line's bytes before the column
 pub record Under (text : List ℕ) (line : Line) (marks : List ℕ) : Type 0 where

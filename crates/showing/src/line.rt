@@ -1,6 +1,6 @@
 ghost use Rattle.std.specs.Prelude.{◌≡◌, ◌+◌, ◌-◌, ◌≤◌, min, length, take, drop, count_by};
 ghost use Rattle.std.specs.List.{prefix_len, suffix_len};
-ghost use Rattle.showing.specs.Lines.{isFeed, ofLine, shownTo, line_of, Stands};
+ghost use Rattle.showing.specs.Lines.{is_feed, of_line, shown_to, line_of, Stands};
 
 // The line of a text in which a byte stands. Lines and columns are counted from 1, columns in bytes. The line's bytes go from `start` up to `end`, without what ends the line: a line feed, or a carriage return and a line feed.
 #[derive(Clone, Copy)]
@@ -13,7 +13,7 @@ pub struct Line {
 
 // How many line feeds there are.
 fn feeds(text: &[u8]) -> usize
-    ensures { result ≡ count_by isFeed text.now }
+    ensures { result ≡ count_by is_feed text.now }
 {
     let mut count = 0;
     for byte in text {
@@ -27,7 +27,7 @@ fn feeds(text: &[u8]) -> usize
 // Where the line of a place begins.
 fn start_before(text: &[u8], place: usize) -> usize
     requires { place ≤ length text.now }
-    ensures { result ≡ place - suffix_len ofLine (take place text.now) }
+    ensures { result ≡ place - suffix_len of_line (take place text.now) }
 {
     let mut start = place;
     while start > 0 && text[start - 1] != b'\n' {
@@ -39,7 +39,7 @@ fn start_before(text: &[u8], place: usize) -> usize
 // The first line feed from a place on, or the text's end.
 fn feed_after(text: &[u8], place: usize) -> usize
     requires { place ≤ length text.now }
-    ensures { result ≡ place + prefix_len ofLine (drop place text.now) }
+    ensures { result ≡ place + prefix_len of_line (drop place text.now) }
 {
     let mut feed = place;
     while feed < text.len() && text[feed] != b'\n' {
@@ -51,7 +51,7 @@ fn feed_after(text: &[u8], place: usize) -> usize
 // Where a line ends for a reader, given its line feed: before a carriage return.
 fn shown_to(text: &[u8], start: usize, feed: usize) -> usize
     requires { feed ≤ length text.now }
-    ensures { result ≡ shownTo text.now start feed }
+    ensures { result ≡ shown_to text.now start feed }
 {
     if start < feed && feed < text.len() && text[feed - 1] == b'\r' {
         feed - 1

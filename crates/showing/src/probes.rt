@@ -1,5 +1,5 @@
 ghost use Rattle.std.specs.Prelude.{◌≡◌, ◌+◌, ◌^◌, ◌<◌, ◌≤◌, ◌++◌, length, take, drop};
-ghost use Rattle.grammar.specs.Parsers.{lookIn};
+ghost use Rattle.grammar.specs.Parsers.{look_in};
 ghost use Rattle.showing.specs.Probes.{number_at, Apart, probed, passed, Tells, TellsEach, Told};
 
 use crate::kinds::{KINDS, Kinds};
@@ -35,7 +35,7 @@ fn goes_past(scratch: &mut [Token], at: usize, place: usize, kind: Kind, nodes: 
     requires nodes { at < length nodes.old }
     requires place { place + 1 < 2 ^ 64 }
     requires apart { Apart (take at scratch.old) place }
-    ensures told { Tells result (lookIn (probed (take at scratch.old) place kind) (place + 1)) at }
+    ensures told { Tells result (look_in (probed (take at scratch.old) place kind) (place + 1)) at }
     ensures kept { take at scratch.new ≡ take at scratch.old }
 {
     scratch[at] = Token {

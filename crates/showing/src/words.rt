@@ -1,12 +1,12 @@
 ghost use Rattle.std.specs.Prelude.{◌≡◌, ◌++◌, IfOk, string_bytes, OnOk};
-ghost use Rattle.showing.specs.Kinds.{kindText, joint, kindsText};
+ghost use Rattle.showing.specs.Kinds.{kind_text, joint, kinds_text};
 
 use crate::kinds::{KINDS, Kinds};
 use letters::Kind;
 use std::alloc::{AllocError, Global};
 
 fn kind_text(heap: Global, kind: Kind) -> Result<String, AllocError>
-    ensures { IfOk result (λ s. string_bytes s ≡ kindText kind) }
+    ensures { IfOk result (λ s. string_bytes s ≡ kind_text kind) }
 {
     if kind.is(Kind::Name) {
         return String::from_str(heap, "a name");
@@ -33,7 +33,7 @@ fn joint_text(left: usize) -> &'static str
 }
 
 fn push_kind(heap: Global, text: &mut String, kind: Kind, left: usize) -> Result<(), AllocError>
-    ensures { OnOk result (string_bytes text.new ≡ string_bytes text.old ++ (kindText kind ++ joint left)) }
+    ensures { OnOk result (string_bytes text.new ≡ string_bytes text.old ++ (kind_text kind ++ joint left)) }
 {
     let name = kind_text(heap, kind)?;
     let name = name.as_str();
@@ -44,7 +44,7 @@ fn push_kind(heap: Global, text: &mut String, kind: Kind, left: usize) -> Result
 
 // The kinds in words, as `a name, a numeral or "("`; nothing where there are none.
 pub fn kinds_text(heap: Global, kinds: Kinds) -> Result<String, AllocError>
-    ensures { IfOk result (λ s. string_bytes s ≡ kindsText kinds) }
+    ensures { IfOk result (λ s. string_bytes s ≡ kinds_text kinds) }
 {
     let mut text = String::new(heap);
     let mut left = kinds.count();

@@ -5,7 +5,7 @@ use Rattle.letters.specs.declared.kind.Kind.TheVariants.{Name, Numeral, Rule, Ne
 use Rattle.letters.specs.declared.token.Token.{Token}
 use Rattle.grammar.specs.Raw.{Condition, Expr, Args, none}
 use Rattle.grammar.specs.Parsers.{Look, is_a, Ans, done, fault, spent, P, then, give, stop, out, next, seq, when, wanted, turn, chain}
-use Rattle.grammar.specs.Sheets.{sumSign, compares, quantity, itemS, itemOn, sideS, conditionS, conditionOn, conditionsS, optionalS, paramS, paramOn, paramsS, exprBy, calcOn, argOn, argsBy, atomBy, exprS, sumS, sumFromS, productS, productFromS, argsS, argsFromS, atomS, ruleS, ruleOn, sheetS}
+use Rattle.grammar.specs.Sheets.{sum_sign, compares, quantity, item_s, item_on, side_s, condition_s, condition_on, conditions_s, optional_s, param_s, param_on, params_s, expr_by, calc_on, arg_on, args_by, atom_by, expr_s, sum_s, sum_from_s, product_s, product_from_s, args_s, args_from_s, atom_s, rule_s, rule_on, sheet_s}
 use Rattle.syntax.specs.Derives.{Upto}
 
 abbrev Beyond : {X : Type 0} → ℕ → Ans X → Type 0
@@ -86,77 +86,77 @@ unfolding chain
 chain-good b step h zero x = out-good
 chain-good b step h (suc f) x = turn-good b (step f) (chain b step f) (h f) (chain-good b step h f) x
 
-item-good : (res m : Bool) → Good (itemS res m)
+item-good : (res m : Bool) → Good (item_s res m)
 item-good res m = on-good (is_a Numeral) _ _ (nexts _ (λ n. on-good (is_a Times) _ _ (nexts _ (λ _. wants (quantity res) _ (λ t. give-good _))) (give-good _))) (wants (quantity res) _ (λ t. give-good _))
 
-side-good : (res : Bool) (f : ℕ) → Good (sideS res f)
-side-good res f = seq-good (itemS res false) _ (item-good res false) (λ it. chain-good sumSign (itemOn res) (λ g x t. seq-good (itemS res (is_a Minus t)) _ (item-good res (is_a Minus t)) (λ it. give-good _)) f _)
+side-good : (res : Bool) (f : ℕ) → Good (side_s res f)
+side-good res f = seq-good (item_s res false) _ (item-good res false) (λ it. chain-good sum_sign (item_on res) (λ g x t. seq-good (item_s res (is_a Minus t)) _ (item-good res (is_a Minus t)) (λ it. give-good _)) f _)
 
-condition-good : (res : Bool) (f : ℕ) → Good (conditionS res f)
-condition-good res f = seq-good (sideS res f) _ (side-good res f) (λ a. wants (compares false) _ (λ c. seq-good (sideS res f) _ (side-good res f) (λ b. give-good _)))
+condition-good : (res : Bool) (f : ℕ) → Good (condition_s res f)
+condition-good res f = seq-good (side_s res f) _ (side-good res f) (λ a. wants (compares false) _ (λ c. seq-good (side_s res f) _ (side-good res f) (λ b. give-good _)))
 
-conditions-good : (res : Bool) (f : ℕ) → Good (conditionsS res f)
-conditions-good res f = seq-good (conditionS res f) _ (condition-good res f) (λ c. chain-good (is_a Comma) (conditionOn res) (λ g x t. seq-good (conditionS res g) _ (condition-good res g) (λ c. give-good _)) f _)
+conditions-good : (res : Bool) (f : ℕ) → Good (conditions_s res f)
+conditions-good res f = seq-good (condition_s res f) _ (condition-good res f) (λ c. chain-good (is_a Comma) (condition_on res) (λ g x t. seq-good (condition_s res g) _ (condition-good res g) (λ c. give-good _)) f _)
 
-optional-good : (k : Kind) (res : Bool) (f : ℕ) → Good (optionalS k res f)
+optional-good : (k : Kind) (res : Bool) (f : ℕ) → Good (optional_s k res f)
 optional-good k res f = on-good (is_a k) _ _ (nexts _ (λ _. conditions-good res f)) (give-good _)
 
-param-good : Good paramS
+param-good : Good param_s
 param-good = wants (is_a Name) _ (λ n. on-good (is_a OpenSquare) _ _ (nexts _ (λ _. wants (is_a Name) _ (λ m. wants (is_a CloseSquare) _ (λ _. give-good _)))) (give-good _))
 
-params-good : (f : ℕ) → Good (paramsS f)
-params-good f = on-good (is_a Close) _ _ (nexts _ (λ _. give-good _)) (seq-good paramS _ param-good (λ p. seq-good (chain (is_a Comma) paramOn f (p ∷ [])) _ (chain-good (is_a Comma) paramOn (λ g x t. seq-good paramS _ param-good (λ p. give-good _)) f _) (λ ps. wants (is_a Close) _ (λ _. give-good _))))
+params-good : (f : ℕ) → Good (params_s f)
+params-good f = on-good (is_a Close) _ _ (nexts _ (λ _. give-good _)) (seq-good param_s _ param-good (λ p. seq-good (chain (is_a Comma) param_on f (p ∷ [])) _ (chain-good (is_a Comma) param_on (λ g x t. seq-good param_s _ param-good (λ p. give-good _)) f _) (λ ps. wants (is_a Close) _ (λ _. give-good _))))
 
-expr-body : (s x : P Expr) → Good s → Good x → Good (exprBy s x)
+expr-body : (s x : P Expr) → Good s → Good x → Good (expr_by s x)
 expr-body s x g h = on-good (is_a Let) _ _ (nexts _ (λ t. wants (is_a Name) _ (λ n. wants (is_a Equal) _ (λ _. seq-good x _ h (λ a. wants (is_a In) _ (λ _. seq-good x _ h (λ b. give-good _)))))))
     (on-good (is_a If) _ _ (nexts _ (λ t. seq-good s _ g (λ a. wants (compares true) _ (λ r. seq-good s _ g (λ b. wants (is_a Then) _ (λ _. seq-good x _ h (λ c. wants (is_a Else) _ (λ _. seq-good x _ h (λ d. give-good _)))))))))
     (on-good (is_a Put) _ _ (nexts _ (λ t. wants (is_a Name) _ (λ n. wants (is_a OpenSquare) _ (λ _. seq-good s _ g (λ a. wants (is_a CloseSquare) _ (λ _. wants (is_a Becomes) _ (λ _. seq-good s _ g (λ b. wants (is_a In) _ (λ _. seq-good x _ h (λ c. give-good _)))))))))) g))
 
-args-body : (s : P Expr) (rest : Args → P Args) → Good s → ((xs : Args) → Good (rest xs)) → Good (argsBy s rest)
-args-body s rest g h = on-good (is_a Close) _ _ (nexts _ (λ _. give-good _)) (seq-good (argOn s none) _ (seq-good s _ g (λ e. give-good _)) (λ xs. seq-good (rest xs) _ (h xs) (λ ys. wants (is_a Close) _ (λ _. give-good _))))
+args-body : (s : P Expr) (rest : Args → P Args) → Good s → ((xs : Args) → Good (rest xs)) → Good (args_by s rest)
+args-body s rest g h = on-good (is_a Close) _ _ (nexts _ (λ _. give-good _)) (seq-good (arg_on s none) _ (seq-good s _ g (λ e. give-good _)) (λ xs. seq-good (rest xs) _ (h xs) (λ ys. wants (is_a Close) _ (λ _. give-good _))))
 
-atom-body : (s : P Expr) (xs : P Args) (x : P Expr) (cs : P (List Condition)) → Good s → Good xs → Good x → Good cs → Good (atomBy s xs x cs)
+atom-body : (s : P Expr) (xs : P Args) (x : P Expr) (cs : P (List Condition)) → Good s → Good xs → Good x → Good cs → Good (atom_by s xs x cs)
 atom-body s xs x cs g a h c = on-good (is_a Numeral) _ _ (nexts _ (λ t. give-good _))
     (on-good (is_a Name) _ _ (nexts _ (λ n. on-good (is_a OpenSquare) _ _ (nexts _ (λ _. seq-good s _ g (λ e. wants (is_a CloseSquare) _ (λ _. give-good _)))) (on-good (is_a Open) _ _ (nexts _ (λ _. seq-good xs _ a (λ ys. give-good _))) (give-good _))))
     (on-good (is_a Open) _ _ (nexts _ (λ t. seq-good x _ h (λ e. on-good (is_a As) _ _ (nexts _ (λ k. seq-good cs _ c (λ ds. wants (is_a Close) _ (λ _. give-good _)))) (wants (is_a Close) _ (λ _. give-good _))))) stop-good))
 
 mutual
-  unfolding exprS sumS sumFromS productS productFromS argsS argsFromS atomS
+  unfolding expr_s sum_s sum_from_s product_s product_from_s args_s args_from_s atom_s
 
-  expr-good : (f : ℕ) → Good (exprS f)
+  expr-good : (f : ℕ) → Good (expr_s f)
   expr-good zero = out-good
-  expr-good (suc f) = expr-body (sumS f) (exprS f) (sum-good f) (expr-good f)
+  expr-good (suc f) = expr-body (sum_s f) (expr_s f) (sum-good f) (expr-good f)
 
-  sum-good : (f : ℕ) → Good (sumS f)
+  sum-good : (f : ℕ) → Good (sum_s f)
   sum-good zero = out-good
-  sum-good (suc f) = seq-good (productS f) (sumFromS f) (product-good f) (sum-from-good f)
+  sum-good (suc f) = seq-good (product_s f) (sum_from_s f) (product-good f) (sum-from-good f)
 
-  sum-from-good : (f : ℕ) (a : Expr) → Good (sumFromS f a)
+  sum-from-good : (f : ℕ) (a : Expr) → Good (sum_from_s f a)
   sum-from-good zero a = out-good
-  sum-from-good (suc f) a = turn-good sumSign (calcOn (productS f)) (sumFromS f) (λ x t. seq-good (productS f) _ (product-good f) (λ b. give-good _)) (sum-from-good f) a
+  sum-from-good (suc f) a = turn-good sum_sign (calc_on (product_s f)) (sum_from_s f) (λ x t. seq-good (product_s f) _ (product-good f) (λ b. give-good _)) (sum-from-good f) a
 
-  product-good : (f : ℕ) → Good (productS f)
+  product-good : (f : ℕ) → Good (product_s f)
   product-good zero = out-good
-  product-good (suc f) = seq-good (atomS f) (productFromS f) (atom-good f) (product-from-good f)
+  product-good (suc f) = seq-good (atom_s f) (product_from_s f) (atom-good f) (product-from-good f)
 
-  product-from-good : (f : ℕ) (a : Expr) → Good (productFromS f a)
+  product-from-good : (f : ℕ) (a : Expr) → Good (product_from_s f a)
   product-from-good zero a = out-good
-  product-from-good (suc f) a = turn-good (is_a Times) (calcOn (atomS f)) (productFromS f) (λ x t. seq-good (atomS f) _ (atom-good f) (λ b. give-good _)) (product-from-good f) a
+  product-from-good (suc f) a = turn-good (is_a Times) (calc_on (atom_s f)) (product_from_s f) (λ x t. seq-good (atom_s f) _ (atom-good f) (λ b. give-good _)) (product-from-good f) a
 
-  args-good : (f : ℕ) → Good (argsS f)
+  args-good : (f : ℕ) → Good (args_s f)
   args-good zero = out-good
-  args-good (suc f) = args-body (sumS f) (argsFromS f) (sum-good f) (args-from-good f)
+  args-good (suc f) = args-body (sum_s f) (args_from_s f) (sum-good f) (args-from-good f)
 
-  args-from-good : (f : ℕ) (xs : Args) → Good (argsFromS f xs)
+  args-from-good : (f : ℕ) (xs : Args) → Good (args_from_s f xs)
   args-from-good zero xs = out-good
-  args-from-good (suc f) xs = turn-good (is_a Comma) (λ ys _. argOn (sumS f) ys) (argsFromS f) (λ ys t. seq-good (sumS f) _ (sum-good f) (λ e. give-good _)) (args-from-good f) xs
+  args-from-good (suc f) xs = turn-good (is_a Comma) (λ ys _. arg_on (sum_s f) ys) (args_from_s f) (λ ys t. seq-good (sum_s f) _ (sum-good f) (λ e. give-good _)) (args-from-good f) xs
 
-  atom-good : (f : ℕ) → Good (atomS f)
+  atom-good : (f : ℕ) → Good (atom_s f)
   atom-good zero = out-good
-  atom-good (suc f) = atom-body (sumS f) (argsS f) (exprS f) (conditionsS true f) (sum-good f) (args-good f) (expr-good f) (conditions-good true f)
+  atom-good (suc f) = atom-body (sum_s f) (args_s f) (expr_s f) (conditions_s true f) (sum-good f) (args-good f) (expr-good f) (conditions-good true f)
 
-rule-good : (t : Token) (f : ℕ) → Good (ruleS t f)
-rule-good t f = wants (is_a Name) _ (λ n. wants (is_a Open) _ (λ _. seq-good (paramsS f) _ (params-good f) (λ ps. seq-good (optionalS Needs false f) _ (optional-good Needs false f) (λ ns. seq-good (optionalS Gives true f) _ (optional-good Gives true f) (λ gs. wants (is_a Equal) _ (λ _. seq-good (exprS f) _ (expr-good f) (λ e. wants (is_a Semicolon) _ (λ _. give-good _))))))))
+rule-good : (t : Token) (f : ℕ) → Good (rule_s t f)
+rule-good t f = wants (is_a Name) _ (λ n. wants (is_a Open) _ (λ _. seq-good (params_s f) _ (params-good f) (λ ps. seq-good (optional_s Needs false f) _ (optional-good Needs false f) (λ ns. seq-good (optional_s Gives true f) _ (optional-good Gives true f) (λ gs. wants (is_a Equal) _ (λ _. seq-good (expr_s f) _ (expr-good f) (λ e. wants (is_a Semicolon) _ (λ _. give-good _))))))))
 
-pub sheet-good : (f : ℕ) → Good (sheetS f)
-sheet-good f = seq-good (chain (is_a Rule) ruleOn f []) _ (chain-good (is_a Rule) ruleOn (λ g rs t. seq-good (ruleS t g) _ (rule-good t g) (λ r. give-good _)) f []) (λ rs. on-good (is_a End) _ _ (give-good rs) stop-good)
+pub sheet-good : (f : ℕ) → Good (sheet_s f)
+sheet-good f = seq-good (chain (is_a Rule) rule_on f []) _ (chain-good (is_a Rule) rule_on (λ g rs t. seq-good (rule_s t g) _ (rule-good t g) (λ r. give-good _)) f []) (λ rs. on-good (is_a End) _ _ (give-good rs) stop-good)

@@ -2,13 +2,13 @@
 use Rattle.std.proofs.Common.{◌≡◌, ℕ, zero, suc, ◌+◌, List, [], ◌∷◌, refl, ap, ◌∙◌, arith}
 use Rattle.letters.specs.declared.kind.Kind.TheVariants.{End}
 use Rattle.letters.specs.declared.token.Token.{Token}
-use Rattle.letters.specs.Kinds.{sameKind}
-use Rattle.grammar.specs.Parsers.{Look, lookIn, is_a}
+use Rattle.letters.specs.Kinds.{same_kind}
+use Rattle.grammar.specs.Parsers.{Look, look_in, is_a}
 use Rattle.syntax.specs.Derives.{Is, Before}
 use Rattle.syntax.proofs.Finishing.{Runs, ran, runs}
 
 pub spliced : ℕ → Look → List Token → Look
-spliced zero l ts q = lookIn ts 0 q
+spliced zero l ts q = look_in ts 0 q
 spliced (suc k) l ts zero = l zero
 spliced (suc k) l ts (suc q) = spliced k (λ r. l (suc r)) ts q
 
@@ -18,13 +18,13 @@ spliced-before zero l ts q h = absurd (omega arith)
 spliced-before (suc k) l ts zero h = refl
 spliced-before (suc k) l ts (suc q) h = spliced-before k (λ r. l (suc r)) ts q (omega arith)
 
-spliced-after : (k : ℕ) (l : Look) (ts : List Token) (n : ℕ) → spliced k l ts (n + k) ≡ lookIn ts 0 n
+spliced-after : (k : ℕ) (l : Look) (ts : List Token) (n : ℕ) → spliced k l ts (n + k) ≡ look_in ts 0 n
 unfolding spliced
-spliced-after zero l ts n = ap (lookIn ts 0) (omega arith)
+spliced-after zero l ts n = ap (look_in ts 0) (omega arith)
 spliced-after (suc k) l ts n = ap (spliced (suc k) l ts) (let e : n + suc k ≡ suc (n + k) = omega arith in e) ∙ spliced-after k (λ r. l (suc r)) ts n
 
-runs-out : (m : Look) (i : ℕ) (ts : List Token) → ((n : ℕ) → m (n + i) ≡ lookIn ts 0 n) → (j : ℕ) × Runs m i ts j × Is End (m j)
-unfolding sameKind
+runs-out : (m : Look) (i : ℕ) (ts : List Token) → ((n : ℕ) → m (n + i) ≡ look_in ts 0 n) → (j : ℕ) × Runs m i ts j × Is End (m j)
+unfolding same_kind
 runs-out m i [] h = (i, ran, ap (is_a End) (ap m (let e : i ≡ 0 + i = omega arith in e) ∙ h 0))
 runs-out m i (t ∷ ts) h =
     let r = runs-out m (suc i) ts (λ n. ap m (let e : n + suc i ≡ suc n + i = omega arith in e) ∙ h (suc n)) in

@@ -6,25 +6,25 @@ use Rattle.letters.specs.declared.token.Token.{Token}
 use Rattle.grammar.specs.Raw.{Item, Side, Condition, Expr, Args, num, name, calc, read, call, bind, test, put, claim, nest, none, more, Param, Sheet}
 use Rattle.grammar.specs.Raw as raw
 use Rattle.grammar.specs.Parsers.{Look, is_a}
-use Rattle.grammar.specs.Sheets.{sumSign, compares, quantity, plainItem, timesItem, conditionOf, numberParam, listParam, ruleOf}
+use Rattle.grammar.specs.Sheets.{sum_sign, compares, quantity, plain_item, times_item, condition_of, number_param, list_param, rule_of}
 
 abbrev pub Is : Kind → Token → Type 0
 Is k t = is_a k t ≡ true
 
 -- item ::= NUMERAL | quantity | NUMERAL `*` quantity
 pub data DItem (l : Look) (res m : Bool) : ℕ → Item → ℕ → Type 0 where
-  item-numeral : {i : ℕ} → Is Numeral (l i) → DItem l res m i (plainItem m (l i)) (suc i)
-  item-plain : {i : ℕ} → quantity res (l i) ≡ true → DItem l res m i (plainItem m (l i)) (suc i)
-  item-times : {i : ℕ} → Is Numeral (l i) → Is Times (l (suc i)) → quantity res (l (suc (suc i))) ≡ true → DItem l res m i (timesItem m (l i) (l (suc (suc i)))) (suc (suc (suc i)))
+  item-numeral : {i : ℕ} → Is Numeral (l i) → DItem l res m i (plain_item m (l i)) (suc i)
+  item-plain : {i : ℕ} → quantity res (l i) ≡ true → DItem l res m i (plain_item m (l i)) (suc i)
+  item-times : {i : ℕ} → Is Numeral (l i) → Is Times (l (suc i)) → quantity res (l (suc (suc i))) ≡ true → DItem l res m i (times_item m (l i) (l (suc (suc i)))) (suc (suc (suc i)))
 
 -- side ::= item | side (`+` | `-`) item
 pub data DSide (l : Look) (res : Bool) : ℕ → Side → ℕ → Type 0 where
   side-first : {i j : ℕ} {it : Item} → DItem l res false i it j → DSide l res i (it ∷ []) j
-  side-more : {i j k : ℕ} {its : Side} {it : Item} → DSide l res i its j → sumSign (l j) ≡ true → DItem l res (is_a Minus (l j)) (suc j) it k → DSide l res i (its ++ it ∷ []) k
+  side-more : {i j k : ℕ} {its : Side} {it : Item} → DSide l res i its j → sum_sign (l j) ≡ true → DItem l res (is_a Minus (l j)) (suc j) it k → DSide l res i (its ++ it ∷ []) k
 
 -- condition ::= side (`<` | `<=` | `=`) side
 pub data DCondition (l : Look) (res : Bool) : ℕ → Condition → ℕ → Type 0 where
-  condition : {i j k : ℕ} {a b : Side} → DSide l res i a j → compares false (l j) ≡ true → DSide l res (suc j) b k → DCondition l res i (conditionOf a (l j) b) k
+  condition : {i j k : ℕ} {a b : Side} → DSide l res i a j → compares false (l j) ≡ true → DSide l res (suc j) b k → DCondition l res i (condition_of a (l j) b) k
 
 -- conditions ::= condition | conditions `,` condition
 pub data DConditions (l : Look) (res : Bool) : ℕ → List Condition → ℕ → Type 0 where
@@ -33,8 +33,8 @@ pub data DConditions (l : Look) (res : Bool) : ℕ → List Condition → ℕ �
 
 -- param ::= NAME | NAME `[` NAME `]`
 pub data DParam (l : Look) : ℕ → Param → ℕ → Type 0 where
-  param-number : {i : ℕ} → Is Name (l i) → DParam l i (numberParam (l i)) (suc i)
-  param-list : {i : ℕ} → Is Name (l i) → Is OpenSquare (l (suc i)) → Is Name (l (suc (suc i))) → Is CloseSquare (l (suc (suc (suc i)))) → DParam l i (listParam (l i) (l (suc (suc i)))) (suc (suc (suc (suc i))))
+  param-number : {i : ℕ} → Is Name (l i) → DParam l i (number_param (l i)) (suc i)
+  param-list : {i : ℕ} → Is Name (l i) → Is OpenSquare (l (suc i)) → Is Name (l (suc (suc i))) → Is CloseSquare (l (suc (suc (suc i)))) → DParam l i (list_param (l i) (l (suc (suc i)))) (suc (suc (suc (suc i))))
 
 -- params ::= param | params `,` param
 pub data DParams (l : Look) : ℕ → List Param → ℕ → Type 0 where
@@ -64,7 +64,7 @@ mutual
     product-more : {i j k : ℕ} {a b : Expr} → Derives l product i a j → Is Times (l j) → Derives l atom (suc j) b k → Derives l product i (calc (l j) a b) k
     -- sum ::= product | sum (`+` | `-`) product
     sum_one : {i j : ℕ} {a : Expr} → Derives l product i a j → Derives l sum i a j
-    sum_more : {i j k : ℕ} {a b : Expr} → Derives l sum i a j → sumSign (l j) ≡ true → Derives l product (suc j) b k → Derives l sum i (calc (l j) a b) k
+    sum_more : {i j k : ℕ} {a b : Expr} → Derives l sum i a j → sum_sign (l j) ≡ true → Derives l product (suc j) b k → Derives l sum i (calc (l j) a b) k
     -- expr ::= sum | `let` NAME `=` expr `in` expr | `if` sum comparison sum `then` expr `else` expr | `put` NAME `[` sum `]` `:=` sum `in` expr
     expr-sum : {i j : ℕ} {a : Expr} → Derives l sum i a j → Derives l expr i a j
     expr-let : {i j k : ℕ} {a b : Expr} → Is Let (l i) → Is Name (l (suc i)) → Is Equal (l (suc (suc i))) → Derives l expr (suc (suc (suc i))) a j → Is In (l j) → Derives l expr (suc j) b k → Derives l expr i (bind (l i) (l (suc i)) a b) k
@@ -83,7 +83,7 @@ pub data DOptional (l : Look) (k : Kind) (res : Bool) : ℕ → List Condition �
 
 -- rule ::= `rule` NAME `(` head [`needs` conditions] [`gives` conditions] `=` expr `;`
 pub data DRule (l : Look) : ℕ → raw.Rule → ℕ → Type 0 where
-  rule : {i j k m n : ℕ} {ps : List Param} {ns gs : List Condition} {e : Expr} → Is Rule (l i) → Is Name (l (suc i)) → Is Open (l (suc (suc i))) → DHead l (suc (suc (suc i))) ps j → DOptional l Needs false j ns k → DOptional l Gives true k gs m → Is Equal (l m) → Derives l expr (suc m) e n → Is Semicolon (l n) → DRule l i (ruleOf (l i) (l (suc i)) ps ns gs e) (suc n)
+  rule : {i j k m n : ℕ} {ps : List Param} {ns gs : List Condition} {e : Expr} → Is Rule (l i) → Is Name (l (suc i)) → Is Open (l (suc (suc i))) → DHead l (suc (suc (suc i))) ps j → DOptional l Needs false j ns k → DOptional l Gives true k gs m → Is Equal (l m) → Derives l expr (suc m) e n → Is Semicolon (l n) → DRule l i (rule_of (l i) (l (suc i)) ps ns gs e) (suc n)
 
 -- rules ::= | rules rule
 pub data DRules (l : Look) : ℕ → Sheet → ℕ → Type 0 where

@@ -5,8 +5,8 @@ use Rattle.grammar.specs.declared.node.Node.{Node}
 use Rattle.grammar.specs.declared.unread.Unread.{Unread}
 use Rattle.grammar.specs.declared.unread.Unread.TheVariants.{Full, Fault}
 use Rattle.grammar.specs.Raw.{Sheet}
-use Rattle.grammar.specs.Parsers.{Look, lookIn}
-use Rattle.grammar.specs.Trees.{rulesTo}
+use Rattle.grammar.specs.Parsers.{Look, look_in}
+use Rattle.grammar.specs.Trees.{rules_to}
 use Rattle.grammar.specs.Parsed.{source_of}
 use Rattle.syntax.specs.Derives.{DSheet, Upto, Before}
 
@@ -31,6 +31,6 @@ pub record NoSheet (l : Look) (w : ℕ) : Type 0 where
 
 -- tokens are read exactly where they derive a sheet, and that sheet is in the nodes
 abbrev pub Lawful : Result ℕ Unread → List Token → ℕ → List Node → Type 0
-Lawful (Ok k) ts e ns = OnlySheet (lookIn ts e) (rulesTo (source_of ts e) k ns)
+Lawful (Ok k) ts e ns = OnlySheet (look_in ts e) (rules_to (source_of ts e) k ns)
 Lawful (Err Full) ts e ns = Unit {0}
-Lawful (Err (Fault w)) ts e ns = NoSheet (lookIn ts e) w
+Lawful (Err (Fault w)) ts e ns = NoSheet (look_in ts e) w

@@ -5,9 +5,9 @@ use Rattle.std.proofs.lemmas.Bool.{and_parts, and_from, leb-true, ltb-true, le-l
 use Rattle.ints.specs.Sums.{Near}
 use Rattle.ints.proofs.Products.{product-near}
 use Rattle.language.specs.declared.term.Term.{Term}
-use Rattle.language.specs.Terms.{each, coefOf, plus, scaled, near, allNear, fitsTerm}
+use Rattle.language.specs.Terms.{each, coef_of, plus, scaled, near, all_near, fits_term}
 use Rattle.language.proofs.Worths.{each_at}
-use Rattle.terms.specs.Narrow.{within, allWithin, room, mostItem, modest, termOf}
+use Rattle.terms.specs.Narrow.{within, all_within, room, most_item, modest, term_of}
 use Rattle.terms.specs.Totals.{takes}
 use Rattle.terms.proofs.Filling.{filled-all}
 use Rattle.terms.proofs.Holding.{within-near}
@@ -17,41 +17,41 @@ pub each_same : (f g : ℕ → ℤ) → ((j : ℕ) → j < 16 → f j ≡ g j) �
 unfolding each
 each_same f g h = filled-all g (each f) 16 (record { long = refl; done = λ k l. each_at f k l ∙ h k l }) (omega arith)
 
-pub one_more : (k : ℤ) (t u : Term) → plus (scaled k t) u ≡ termOf (k *ℤ t.constant +ℤ u.constant) (each (λ j. k *ℤ coefOf t j +ℤ coefOf u j))
+pub one_more : (k : ℤ) (t u : Term) → plus (scaled k t) u ≡ term_of (k *ℤ t.constant +ℤ u.constant) (each (λ j. k *ℤ coef_of t j +ℤ coef_of u j))
 unfolding plus scaled
-one_more k t u = ap (termOf (k *ℤ t.constant +ℤ u.constant)) (each_same _ _ (λ j l. ap (λ (x : ℤ). x +ℤ coefOf u j) (each_at (λ i. k *ℤ coefOf t i) j l)))
+one_more k t u = ap (term_of (k *ℤ t.constant +ℤ u.constant)) (each_same _ _ (λ j l. ap (λ (x : ℤ). x +ℤ coef_of u j) (each_at (λ i. k *ℤ coef_of t i) j l)))
 
 module _ (n : ℕ) (c : ℤ) (cs : List ℤ) (h : modest n c cs ≡ true) where
   abbrev reach : ℕ
-  reach = n * mostItem
+  reach = n * most_item
 
-  parts : (n ≤ 16384) × ((within (pos reach) c ≡ true) × (allWithin (pos reach) cs ≡ true))
+  parts : (n ≤ 16384) × ((within (pos reach) c ≡ true) × (all_within (pos reach) cs ≡ true))
   parts =
-      let p = and_parts (leb n 16384) (within (pos reach) c && allWithin (pos reach) cs) h in
-      let q = and_parts (within (pos reach) c) (allWithin (pos reach) cs) p.1 in
+      let p = and_parts (leb n 16384) (within (pos reach) c && all_within (pos reach) cs) h in
+      let q = and_parts (within (pos reach) c) (all_within (pos reach) cs) p.1 in
       (leb-true n 16384 p.0, q)
 
   roomy : reach ≤ room
   roomy = let p = parts in omega arith
 
-  pub room-coefs : allWithin (pos room) cs ≡ true
+  pub room-coefs : all_within (pos room) cs ≡ true
   room-coefs = all-wider reach room roomy cs parts.1.1
 
   module _ (k : ℤ) (t : Term) (e : takes n k t ≡ true) where
-    item : (x z : ℤ) → Near 1000000 x → Near reach z → Near ((n + 1) * mostItem) (k *ℤ x +ℤ z)
+    item : (x z : ℤ) → Near 1000000 x → Near reach z → Near ((n + 1) * most_item) (k *ℤ x +ℤ z)
     item x z a b =
-        let p = and_parts (ltb n 16384) (near k && fitsTerm t) e in
-        let q = and_parts (near k) (fitsTerm t) p.1 in
+        let p = and_parts (ltb n 16384) (near k && fits_term t) e in
+        let q = and_parts (near k) (fits_term t) p.1 in
         let m = product-near k x 1000000 1000000 (within-is 1000000 k q.0) a in
         (omega (arith, ints), omega (arith, ints))
 
-    pub modest-more : modest (n + 1) (k *ℤ t.constant +ℤ c) (each (λ j. k *ℤ coefOf t j +ℤ get_or cs j (pos 0))) ≡ true
+    pub modest-more : modest (n + 1) (k *ℤ t.constant +ℤ c) (each (λ j. k *ℤ coef_of t j +ℤ get_or cs j (pos 0))) ≡ true
     modest-more =
-        let p = and_parts (ltb n 16384) (near k && fitsTerm t) e in
-        let q = and_parts (near t.constant) (allNear t.coefs) (and_parts (near k) (fitsTerm t) p.1).1 in
+        let p = and_parts (ltb n 16384) (near k && fits_term t) e in
+        let q = and_parts (near t.constant) (all_near t.coefs) (and_parts (near k) (fits_term t) p.1).1 in
         let l : n + 1 ≤ 16384 = omega (arith, ltb-true n 16384 p.0) in
         let r = within-at 1000000 t.coefs (within-near t.coefs ∙ q.1) in
         let s = within-at reach cs parts.1.1 in
-        let a = within-from ((n + 1) * mostItem) (k *ℤ t.constant +ℤ c) (item t.constant c (within-is 1000000 t.constant q.0) (within-is reach c parts.1.0)) in
-        let b = within-each ((n + 1) * mostItem) (λ j. k *ℤ coefOf t j +ℤ get_or cs j (pos 0)) (λ j. item (coefOf t j) (get_or cs j (pos 0)) (r j) (s j)) in
+        let a = within-from ((n + 1) * most_item) (k *ℤ t.constant +ℤ c) (item t.constant c (within-is 1000000 t.constant q.0) (within-is reach c parts.1.0)) in
+        let b = within-each ((n + 1) * most_item) (λ j. k *ℤ coef_of t j +ℤ get_or cs j (pos 0)) (λ j. item (coef_of t j) (get_or cs j (pos 0)) (r j) (s j)) in
         and_from _ _ (le-leb (n + 1) 16384 l) (and_from _ _ a b)

@@ -6,7 +6,7 @@ use Rattle.std.proofs.lemmas.Int.{ints}
 use Rattle.std.proofs.lemmas.Bool.{and_parts, and_from}
 use Rattle.ints.specs.Sums.{Near}
 use Rattle.language.specs.Terms.{each}
-use Rattle.terms.specs.Narrow.{within, allWithin}
+use Rattle.terms.specs.Narrow.{within, all_within}
 
 module _ (k : ℕ) where
   pub within-is : (z : ℤ) → within (pos k) z ≡ true → Near k z
@@ -18,18 +18,18 @@ module _ (k : ℕ) where
       let b : le_z z (pos k) ≡ true = grind (arith, ints, h.1) in
       and_from _ _ a b
 
-  pub within-at : (zs : List ℤ) → allWithin (pos k) zs ≡ true → (j : ℕ) → Near k (get_or zs j (pos 0))
-  unfolding allWithin
+  pub within-at : (zs : List ℤ) → all_within (pos k) zs ≡ true → (j : ℕ) → Near k (get_or zs j (pos 0))
+  unfolding all_within
   within-at [] h j = (omega (arith, ints), omega (arith, ints))
   within-at (z ∷ zs) h zero = within-is z (and_parts _ _ h).0
   within-at (z ∷ zs) h (suc j) = within-at zs (and_parts _ _ h).1 j
 
-  within-map : (f : ℕ → ℤ) → ((j : ℕ) → Near k (f j)) → (a n : ℕ) → allWithin (pos k) (map f (range_with_len a n)) ≡ true
-  unfolding allWithin
+  within-map : (f : ℕ → ℤ) → ((j : ℕ) → Near k (f j)) → (a n : ℕ) → all_within (pos k) (map f (range_with_len a n)) ≡ true
+  unfolding all_within
   within-map f h a zero = refl
   within-map f h a (suc n) = and_from _ _ (within-from (f a) (h a)) (within-map f h (a + 1) n)
 
-  pub within-each : (f : ℕ → ℤ) → ((j : ℕ) → Near k (f j)) → allWithin (pos k) (each f) ≡ true
+  pub within-each : (f : ℕ → ℤ) → ((j : ℕ) → Near k (f j)) → all_within (pos k) (each f) ≡ true
   unfolding each
   within-each f h = within-map f h 0 16
 
@@ -41,7 +41,7 @@ module _ (k : ℕ) where
         let b : le_z z (pos l) ≡ true = grind (arith, ints, n.1, wide) in
         and_from _ _ a b
 
-    pub all-wider : (zs : List ℤ) → allWithin (pos k) zs ≡ true → allWithin (pos l) zs ≡ true
-    unfolding allWithin
+    pub all-wider : (zs : List ℤ) → all_within (pos k) zs ≡ true → all_within (pos l) zs ≡ true
+    unfolding all_within
     all-wider [] h = refl
     all-wider (z ∷ zs) h = let p = and_parts _ _ h in and_from _ _ (within_wider z p.0) (all-wider zs p.1)

@@ -1,27 +1,27 @@
 -- Loops that hold each number to a limit.
 use Rattle.std.proofs.Common.{◌≡◌, ℕ, ◌+◌, ◌<◌, ◌≤◌, Bool, true, false, cond, ◌&&◌, List, [], ◌∷◌, length, get_or, drop, set, ℤ, pos, Some, None, sym, refl, ap, ◌∙◌, arith}
 use Rattle.std.proofs.lemmas.List.{at_drop_more, at_drop_all, ext_get_or}
-use Rattle.language.specs.Terms.{near, allNear}
-use Rattle.rows.specs.Limits.{allSmall}
-use Rattle.terms.specs.Narrow.{within, allWithin}
+use Rattle.language.specs.Terms.{near, all_near}
+use Rattle.rows.specs.Limits.{all_small}
+use Rattle.terms.specs.Narrow.{within, all_within}
 use Rattle.terms.proofs.Filling.{Filled, filled_none, filled_more}
 
-pub near-more : (zs : List ℤ) (i : ℕ) → i < length zs → allNear (drop i zs) ≡ (near (get_or zs i (pos 0)) && allNear (drop (i + 1) zs))
-unfolding allNear
-near-more zs i h = at_drop_more allNear zs i (pos 0) h
+pub near-more : (zs : List ℤ) (i : ℕ) → i < length zs → all_near (drop i zs) ≡ (near (get_or zs i (pos 0)) && all_near (drop (i + 1) zs))
+unfolding all_near
+near-more zs i h = at_drop_more all_near zs i (pos 0) h
 
-pub near-all : (zs : List ℤ) (i : ℕ) → length zs ≤ i → allNear (drop i zs) ≡ true
-unfolding allNear
-near-all zs i h = at_drop_all allNear zs i h
+pub near-all : (zs : List ℤ) (i : ℕ) → length zs ≤ i → all_near (drop i zs) ≡ true
+unfolding all_near
+near-all zs i h = at_drop_all all_near zs i h
 
 -- the tests of terms and of rows are tests against a limit
-pub within-near : (zs : List ℤ) → allWithin (pos 1000000) zs ≡ allNear zs
-unfolding allWithin allNear
+pub within-near : (zs : List ℤ) → all_within (pos 1000000) zs ≡ all_near zs
+unfolding all_within all_near
 within-near [] = refl
 within-near (z ∷ zs) = ap (λ (b : Bool). near z && b) (within-near zs)
 
-pub within-small : (zs : List ℤ) → allWithin (pos 4000000) zs ≡ allSmall zs
-unfolding allWithin allSmall
+pub within-small : (zs : List ℤ) → all_within (pos 4000000) zs ≡ all_small zs
+unfolding all_within all_small
 within-small [] = refl
 within-small (z ∷ zs) = ap (λ (b : Bool). within (pos 4000000) z && b) (within-small zs)
 
@@ -41,26 +41,26 @@ module _ (limit : ℤ) (xs : List ℤ) where
   -- the first j are the same, and lie within the limit
   pub record Held (out : List ℤ) (j : ℕ) : Type 0 where
     pub same : Filled at out j
-    pub rest : allWithin limit xs ≡ allWithin limit (drop j xs)
+    pub rest : all_within limit xs ≡ all_within limit (drop j xs)
 
   pub held_none : (out : List ℤ) → length out ≡ 16 → Held out 0
   held_none out h = record { same = filled_none at out h; rest = refl }
 
   module _ (out : List ℤ) (j : ℕ) (h : Held out j) where
-    step : j < length xs → allWithin limit xs ≡ (within limit (at j) && allWithin limit (drop (j + 1) xs))
-    unfolding allWithin
-    step l = h.rest ∙ at_drop_more (allWithin limit) xs j (pos 0) l
+    step : j < length xs → all_within limit xs ≡ (within limit (at j) && all_within limit (drop (j + 1) xs))
+    unfolding all_within
+    step l = h.rest ∙ at_drop_more (all_within limit) xs j (pos 0) l
 
-    pub held-broken : j < length xs → None ≡ cond (within limit (at j)) (Some (at j)) None → None ≡ cond (allWithin limit xs) (Some xs) None
-    held-broken l e = sym (ap (λ (b : Bool). cond b (Some xs) None) (step l ∙ ap (λ (b : Bool). b && allWithin limit (drop (j + 1) xs)) (kept-none (at j) _ e)))
+    pub held-broken : j < length xs → None ≡ cond (within limit (at j)) (Some (at j)) None → None ≡ cond (all_within limit xs) (Some xs) None
+    held-broken l e = sym (ap (λ (b : Bool). cond b (Some xs) None) (step l ∙ ap (λ (b : Bool). b && all_within limit (drop (j + 1) xs)) (kept-none (at j) _ e)))
 
     pub held_more : (v : ℤ) → j < 16 → j < length xs → Some v ≡ cond (within limit (at j)) (Some (at j)) None → Held (set out j v) (j + 1)
     held_more v m l e =
         let k = kept-some (at j) _ v e in
-        record { same = filled_more at out j h.same v m k.1; rest = step l ∙ ap (λ (b : Bool). b && allWithin limit (drop (j + 1) xs)) k.0 }
+        record { same = filled_more at out j h.same v m k.1; rest = step l ∙ ap (λ (b : Bool). b && all_within limit (drop (j + 1) xs)) k.0 }
 
-    pub held_all : length xs ≡ 16 → 16 ≤ j → Some out ≡ cond (allWithin limit xs) (Some xs) None
-    unfolding allWithin
+    pub held_all : length xs ≡ 16 → 16 ≤ j → Some out ≡ cond (all_within limit xs) (Some xs) None
+    unfolding all_within
     held_all l m =
         let e = ext_get_or (pos 0) out xs (omega (arith, h.same.long)) (λ k n. h.same.done k (omega (arith, h.same.long))) in
-        ap Some e ∙ sym (ap (λ (b : Bool). cond b (Some xs) None) (h.rest ∙ at_drop_all (allWithin limit) xs j (omega arith)))
+        ap Some e ∙ sym (ap (λ (b : Bool). cond b (Some xs) None) (h.rest ∙ at_drop_all (all_within limit) xs j (omega arith)))

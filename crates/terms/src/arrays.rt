@@ -1,7 +1,7 @@
 ghost use Rattle.std.specs.Prelude.{◌≡◌, true, pos, ◌+ℤ◌, ◌-ℤ◌, ◌*ℤ◌, if◌then◌else◌, Some, None, slice_index_or};
 ghost use Rattle.ints.specs.Tests.{is_zero, all_below};
-ghost use Rattle.language.specs.Terms.{each, allNear};
-ghost use Rattle.terms.specs.Narrow.{allWithin, room};
+ghost use Rattle.language.specs.Terms.{each, all_near};
+ghost use Rattle.terms.specs.Narrow.{all_within, room};
 
 use crate::numbers::{add_product, difference, is_near, is_zero, narrow, product, sum};
 use rows::QUANTITIES;
@@ -37,7 +37,7 @@ pub(crate) fn products(k: i32, xs: &[i32; 16]) -> [i64; 16]
 }
 
 pub(crate) fn add_products(zs: &[i64; 16], k: i32, xs: &[i32; 16]) -> [i64; 16]
-    requires { allWithin (pos room) zs.now ≡ true }
+    requires { all_within (pos room) zs.now ≡ true }
     ensures { result ≡ each (λ j. k *ℤ slice_index_or xs.now j (pos 0) +ℤ slice_index_or zs.now j (pos 0)) }
 {
     let mut out = [0i64; 16];
@@ -49,7 +49,7 @@ pub(crate) fn add_products(zs: &[i64; 16], k: i32, xs: &[i32; 16]) -> [i64; 16]
 
 // The same numbers, where each lies at most so far from 0.
 pub(crate) fn narrow_all(limit: i32, xs: &[i64; 16]) -> Option<[i32; 16]>
-    ensures { result ≡ (if allWithin limit xs.now then Some xs.now else None) }
+    ensures { result ≡ (if all_within limit xs.now then Some xs.now else None) }
 {
     let mut out = [0i32; 16];
     for j in 0..QUANTITIES {
@@ -59,7 +59,7 @@ pub(crate) fn narrow_all(limit: i32, xs: &[i64; 16]) -> Option<[i32; 16]>
 }
 
 pub(crate) fn all_near(xs: &[i32]) -> bool
-    ensures { result ≡ allNear xs.now }
+    ensures { result ≡ all_near xs.now }
 {
     for x in xs {
         if !is_near(*x) {

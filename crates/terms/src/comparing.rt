@@ -2,7 +2,7 @@ ghost use Rattle.std.specs.Prelude.{◌≡◌, pos};
 ghost use Rattle.rows.specs.Rows.{row_of};
 ghost use Rattle.language.specs.Comparing.{at_most, unequal, rows, otherwise};
 ghost use Rattle.terms.specs.Listed.{list_of};
-ghost use Rattle.terms.specs.Totals.{sum_of, sideRows};
+ghost use Rattle.terms.specs.Totals.{sum_of, side_rows};
 
 use crate::arrays::{differences, narrow_all};
 use crate::numbers::{difference, narrow};
@@ -70,7 +70,7 @@ pub fn otherwise(comparison: Comparison, t: &Term, u: &Term) -> Rows
 
 // The rows of a condition whose sides come to these totals: none in their place where a side is past the limit of terms.
 pub fn condition_rows(comparison: Comparison, left: Total, right: Total) -> Rows
-    ensures { list_of result ≡ sideRows comparison (sum_of left) (sum_of right) }
+    ensures { list_of result ≡ side_rows comparison (sum_of left) (sum_of right) }
 {
     let Some(t) = left.finish() else {
         return Rows::One(None);

@@ -1,7 +1,7 @@
 ghost use Rattle.std.specs.Prelude.{◌≡◌};
 ghost use Rattle.language.specs.declared.sign.Operator.TheVariants.{Product};
-ghost use Rattle.language.specs.Terms.{constant, quantity, scaled, fitsTerm, isConstant, limited, worked};
-ghost use Rattle.terms.specs.Narrow.{termOf};
+ghost use Rattle.language.specs.Terms.{constant, quantity, scaled, fits_term, is_constant, limited, worked};
+ghost use Rattle.terms.specs.Narrow.{term_of};
 
 use crate::arrays::{all_near, all_zero, differences, narrow_all, products, sums};
 use crate::numbers::{difference, is_near, narrow, product, sum};
@@ -30,21 +30,21 @@ pub fn quantity(n: usize) -> Term
 
 // Whether the constant and each coefficient keep the limit.
 pub fn fits(t: &Term) -> bool
-    ensures { result ≡ fitsTerm t.now }
+    ensures { result ≡ fits_term t.now }
 {
     is_near(t.constant) && all_near(&t.coefs)
 }
 
 // Whether every coefficient is 0.
 pub fn is_constant(t: &Term) -> bool
-    ensures { result ≡ isConstant t.now }
+    ensures { result ≡ is_constant t.now }
 {
     all_zero(&t.coefs)
 }
 
 // The term of these numbers, where they keep the limit.
 pub(crate) fn limited(constant: i64, coefs: &[i64; 16]) -> Option<Term>
-    ensures { result ≡ limited (termOf constant coefs.now) }
+    ensures { result ≡ limited (term_of constant coefs.now) }
 {
     let constant = narrow(TERM_LIMIT, constant)?;
     let coefs = narrow_all(TERM_LIMIT, coefs)?;

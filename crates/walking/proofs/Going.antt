@@ -7,14 +7,14 @@ use Rattle.rows.specs.declared.row.Row.{Row}
 use Rattle.language.specs.declared.owed.Duty.TheVariants.{Guard}
 use Rattle.language.specs.declared.refusal.Refusal.{Refusal}
 use Rattle.language.specs.declared.term.Term.{Term}
-use Rattle.language.specs.Comparing.{conditionRows}
+use Rattle.language.specs.Comparing.{condition_rows}
 use Rattle.language.specs.Tree as Tree
-use Rattle.language.specs.Walking.{Owing, owe, oweAll}
+use Rattle.language.specs.Walking.{Owing, owe, owe_all}
 use Rattle.records.specs.declared.condition.Condition.{Condition}
 use Rattle.records.specs.declared.laid.Laid.{Laid}
 use Rattle.records.specs.Columns.{Columns, no_condition}
 use Rattle.records.specs.Laying.{columns_of}
-use Rattle.records.specs.Tables.{conditionIn, conditionsIn}
+use Rattle.records.specs.Tables.{condition_in, conditions_in}
 use Rattle.walking.specs.Owing.{Spacious, Pays, Breaks}
 use Rattle.std.proofs.lemmas.Option.{slice_get-get_or}
 use Rattle.terms.specs.declared.rowlist.Rows.{Rows}
@@ -24,15 +24,15 @@ use Rattle.walking.proofs.Owings.{pays-none, pays-then, breaks-then, breaks-firs
 use Rattle.walking.proofs.Siding.{cut}
 
 module _ (place : ℕ) (facts : List Row) where
-  notes-append : (xs ys : List (Option Row)) (n : ℕ) → (oweAll place facts n (xs ++ ys)).notes ≡ (oweAll place facts n xs).notes ++ (oweAll place facts (oweAll place facts n xs).count ys).notes
-  unfolding oweAll
+  notes-append : (xs ys : List (Option Row)) (n : ℕ) → (owe_all place facts n (xs ++ ys)).notes ≡ (owe_all place facts n xs).notes ++ (owe_all place facts (owe_all place facts n xs).count ys).notes
+  unfolding owe_all
   notes-append [] ys n = refl
   notes-append (x ∷ xs) ys n =
       let o = owe Guard place place facts n x in
-      ap (λ ns. o.notes ++ ns) (notes-append xs ys o.count) ∙ sym (append_assoc o.notes (oweAll place facts o.count xs).notes _)
+      ap (λ ns. o.notes ++ ns) (notes-append xs ys o.count) ∙ sym (append_assoc o.notes (owe_all place facts o.count xs).notes _)
 
-  count-append : (xs ys : List (Option Row)) (n : ℕ) → (oweAll place facts n (xs ++ ys)).count ≡ (oweAll place facts (oweAll place facts n xs).count ys).count
-  unfolding oweAll
+  count-append : (xs ys : List (Option Row)) (n : ℕ) → (owe_all place facts n (xs ++ ys)).count ≡ (owe_all place facts (owe_all place facts n xs).count ys).count
+  unfolding owe_all
   count-append [] ys n = refl
   count-append (x ∷ xs) ys n = count-append xs ys (owe Guard place place facts n x).count
 
@@ -40,40 +40,40 @@ module _ (place : ℕ) (facts : List Row) where
   pub record Going (whole : Owing) (rest : List (Option Row)) (t u : Laid) : Type 0 where
     pub so : Owing
     pub paid : Pays so t u
-    pub notes : whole.notes ≡ so.notes ++ (oweAll place facts so.count rest).notes
-    pub count : whole.count ≡ (oweAll place facts so.count rest).count
+    pub notes : whole.notes ≡ so.notes ++ (owe_all place facts so.count rest).notes
+    pub count : whole.count ≡ (owe_all place facts so.count rest).count
 
-  pub going_none : (rs : List (Option Row)) (t : Laid) → Going (oweAll place facts t.owed rs) rs t t
+  pub going_none : (rs : List (Option Row)) (t : Laid) → Going (owe_all place facts t.owed rs) rs t t
   going_none rs t = record { so = record { count = t.owed; notes = [] }; paid = pays-none t; notes = refl; count = refl }
 
-  pub going_turn : (whole : Owing) (xs ys : List (Option Row)) (t u v : Laid) → Going whole (xs ++ ys) t u → Pays (oweAll place facts u.owed xs) u v → Going whole ys t v
+  pub going_turn : (whole : Owing) (xs ys : List (Option Row)) (t u v : Laid) → Going whole (xs ++ ys) t u → Pays (owe_all place facts u.owed xs) u v → Going whole ys t v
   going_turn whole xs ys t u v g p =
-      let q : Pays (oweAll place facts g.so.count xs) u v = subst (λ n. Pays (oweAll place facts n xs) u v) g.paid.count p in record {
-        so = record { count = (oweAll place facts g.so.count xs).count; notes = g.so.notes ++ (oweAll place facts g.so.count xs).notes };
-        paid = pays-then g.so (oweAll place facts g.so.count xs) t u v g.paid q;
-        notes = g.notes ∙ ap (λ ns. g.so.notes ++ ns) (notes-append xs ys g.so.count) ∙ sym (append_assoc g.so.notes (oweAll place facts g.so.count xs).notes _);
+      let q : Pays (owe_all place facts g.so.count xs) u v = subst (λ n. Pays (owe_all place facts n xs) u v) g.paid.count p in record {
+        so = record { count = (owe_all place facts g.so.count xs).count; notes = g.so.notes ++ (owe_all place facts g.so.count xs).notes };
+        paid = pays-then g.so (owe_all place facts g.so.count xs) t u v g.paid q;
+        notes = g.notes ∙ ap (λ ns. g.so.notes ++ ns) (notes-append xs ys g.so.count) ∙ sym (append_assoc g.so.notes (owe_all place facts g.so.count xs).notes _);
         count = g.count ∙ count-append xs ys g.so.count;
       }
 
-  pub going_break : (whole : Owing) (e : Refusal) (xs ys : List (Option Row)) (t u v : Laid) → Going whole (xs ++ ys) t u → Breaks e (oweAll place facts u.owed xs).notes u v → Breaks e whole.notes t v
+  pub going_break : (whole : Owing) (e : Refusal) (xs ys : List (Option Row)) (t u v : Laid) → Going whole (xs ++ ys) t u → Breaks e (owe_all place facts u.owed xs).notes u v → Breaks e whole.notes t v
   going_break whole e xs ys t u v g b =
-      let q : Breaks e (oweAll place facts g.so.count xs).notes u v = subst (λ n. Breaks e (oweAll place facts n xs).notes u v) g.paid.count b in
+      let q : Breaks e (owe_all place facts g.so.count xs).notes u v = subst (λ n. Breaks e (owe_all place facts n xs).notes u v) g.paid.count b in
       subst (λ ns. Breaks e ns t v) (sym (g.notes ∙ ap (λ ns. g.so.notes ++ ns) (notes-append xs ys g.so.count)))
-      (breaks-then e g.so _ t u v g.paid (breaks-first e (oweAll place facts g.so.count xs).notes _ u v q))
+      (breaks-then e g.so _ t u v g.paid (breaks-first e (owe_all place facts g.so.count xs).notes _ u v q))
 
   pub going-end : (whole : Owing) (t u : Laid) → Going whole [] t u → Pays whole t u
-  unfolding oweAll
+  unfolding owe_all
   going-end whole t u g =
       subst (λ (o : Owing). Pays o t u) (sym (ap₂ (λ n ns. record { count = n; notes = ns }) g.count (g.notes ∙ append-nil g.so.notes))) g.paid
 
 -- the rows of the first condition, and then those of the others
 module _ (p : Columns) (ts : List Term) (r : Term) where
-  pub rows-step : (from to : ℕ) (c : Condition) → from < to → slice_get p.conditions.entries from ≡ Some c → rows_in p ts r from to ≡ conditionRows ts r (conditionIn p.items.entries c) ++ rows_in p ts r (from + 1) to
-  unfolding rows_in conditionsIn
-  rows-step from to c h e = ap (λ cs. rows (map (conditionIn p.items.entries) cs)) (cut p.conditions.entries from to c h e) ∙ flat_map-cons (conditionRows ts r) (conditionIn p.items.entries c) _
+  pub rows-step : (from to : ℕ) (c : Condition) → from < to → slice_get p.conditions.entries from ≡ Some c → rows_in p ts r from to ≡ condition_rows ts r (condition_in p.items.entries c) ++ rows_in p ts r (from + 1) to
+  unfolding rows_in conditions_in
+  rows-step from to c h e = ap (λ cs. rows (map (condition_in p.items.entries) cs)) (cut p.conditions.entries from to c h e) ∙ flat_map-cons (condition_rows ts r) (condition_in p.items.entries c) _
     where
       rows : List Tree.Condition → List (Option Row)
-      rows cs = flat_map (conditionRows ts r) cs
+      rows cs = flat_map (condition_rows ts r) cs
 
   pub rows-here : (rows : Rows) (from to : ℕ) → from < to → to ≤ length p.conditions.entries → RowsAt rows ts r p.items.entries p.conditions.entries from → rows_in p ts r from to ≡ list_of rows ++ rows_in p ts r (from + 1) to
   rows-here rows from to h l w =
@@ -82,8 +82,8 @@ module _ (p : Columns) (ts : List Term) (r : Term) where
       rows-step from to c h e ∙ ap (λ xs. xs ++ rows_in p ts r (from + 1) to) (sym (w c e))
 
   pub rows-none : (from to : ℕ) → to ≤ from → rows_in p ts r from to ≡ []
-  unfolding rows_in conditionsIn
-  rows-none from to h = ap (λ n. flat_map (conditionRows ts r) (map (conditionIn p.items.entries) (take n (drop from p.conditions.entries)))) (let z : to - from ≡ 0 = omega arith in z)
+  unfolding rows_in conditions_in
+  rows-none from to h = ap (λ n. flat_map (condition_rows ts r) (map (condition_in p.items.entries) (take n (drop from p.conditions.entries)))) (let z : to - from ≡ 0 = omega arith in z)
 
 -- a table with the same columns has as many records
 pub spacious-on : (t u : Laid) → columns_of u ≡ columns_of t → Spacious t → Spacious u

@@ -5,23 +5,23 @@ use Rattle.std.proofs.lemmas.Bool.{lt-ltb, le-ltb}
 use Rattle.rows.specs.declared.row.Row.{Row}
 use Rattle.language.specs.declared.refusal.Refusal.{Refusal}
 use Rattle.language.specs.declared.refusal.Refusal.TheVariants.{Full, Large}
-use Rattle.language.specs.Walking.{limit, assume, firstFault}
+use Rattle.language.specs.Walking.{limit, assume, first_fault}
 use Rattle.language.proofs.Laws.{fault-first, fault-next}
 use Rattle.walking.specs.Knowing.{Took}
 
 module _ (place : ℕ) (facts : List Row) where
-  pub large : firstFault (assume place facts (None ∷ [])).notes ≡ Some (Large place)
-  unfolding assume firstFault
+  pub large : first_fault (assume place facts (None ∷ [])).notes ≡ Some (Large place)
+  unfolding assume first_fault
   large = refl
 
   -- past the last fact that there is room for
-  pub crowded : (row : Row) → 24 ≤ length facts → firstFault (assume place facts (Some row ∷ [])).notes ≡ Some (Full place)
-  unfolding assume limit firstFault
-  crowded row h = ap (λ b. firstFault (limit b (Full place) ++ [])) (le-ltb (length facts) 24 h)
+  pub crowded : (row : Row) → 24 ≤ length facts → first_fault (assume place facts (Some row ∷ [])).notes ≡ Some (Full place)
+  unfolding assume limit first_fault
+  crowded row h = ap (λ b. first_fault (limit b (Full place) ++ [])) (le-ltb (length facts) 24 h)
 
-  pub roomy : (row : Row) → length facts < 24 → firstFault (assume place facts (Some row ∷ [])).notes ≡ None
-  unfolding assume limit firstFault
-  roomy row h = ap (λ b. firstFault (limit b (Full place) ++ [])) (lt-ltb (length facts) 24 h)
+  pub roomy : (row : Row) → length facts < 24 → first_fault (assume place facts (Some row ∷ [])).notes ≡ None
+  unfolding assume limit first_fault
+  roomy row h = ap (λ b. first_fault (limit b (Full place) ++ [])) (lt-ltb (length facts) 24 h)
 
   pub grown : (row : Row) → (assume place facts (Some row ∷ [])).facts ≡ facts ++ row ∷ []
   unfolding assume
@@ -39,13 +39,13 @@ module _ (place : ℕ) (facts : List Row) where
   notes-then (Some row) rs = ap (λ ns. ns ++ (assume place (facts ++ row ∷ []) rs).notes) (sym (append-nil (limit (ltb (length facts) 24) (Full place))))
 
   pub took-stop : (r : Refusal) (o : Option Row) (rs : List (Option Row)) (after : List Row) → Took (Err r) (assume place facts (o ∷ [])) facts after → Took (Err r) (assume place facts (o ∷ rs)) facts after
-  took-stop r o rs after t = (ap firstFault (notes-then o rs) ∙ fault-first (assume place facts (o ∷ [])).notes (assume place (assume place facts (o ∷ [])).facts rs).notes r t.0, t.1)
+  took-stop r o rs after t = (ap first_fault (notes-then o rs) ∙ fault-first (assume place facts (o ∷ [])).notes (assume place (assume place facts (o ∷ [])).facts rs).notes r t.0, t.1)
 
   pub took-then : (u : Unit {0}) (r : Result (Unit {0}) Refusal) (o : Option Row) (rs : List (Option Row)) (here after : List Row) → ((more : List Row) × (here ≡ facts ++ more)) → Took (Ok u) (assume place facts (o ∷ [])) facts here → Took r (assume place here rs) here after → Took r (assume place facts (o ∷ rs)) facts after
   took-then u r o rs here after m s t = went r (subst (λ fs. Took r (assume place fs rs) here after) s.1 t)
     where
-      notes : firstFault (assume place facts (o ∷ rs)).notes ≡ firstFault (assume place (assume place facts (o ∷ [])).facts rs).notes
-      notes = ap firstFault (notes-then o rs) ∙ fault-next (assume place facts (o ∷ [])).notes (assume place (assume place facts (o ∷ [])).facts rs).notes s.0
+      notes : first_fault (assume place facts (o ∷ rs)).notes ≡ first_fault (assume place (assume place facts (o ∷ [])).facts rs).notes
+      notes = ap first_fault (notes-then o rs) ∙ fault-next (assume place facts (o ∷ [])).notes (assume place (assume place facts (o ∷ [])).facts rs).notes s.0
 
       went : (r : Result (Unit {0}) Refusal) → Took r (assume place (assume place facts (o ∷ [])).facts rs) here after → Took r (assume place facts (o ∷ rs)) facts after
       went (Ok v) t = (notes ∙ t.0, t.1 ∙ sym (facts-then o rs))
@@ -58,10 +58,10 @@ module _ (place : ℕ) (facts : List Row) where
   one-more (Some row) = (row ∷ [], refl)
 
 -- the next quantity, while there is one
-pub none_left : (place n : ℕ) → 16 ≤ n → firstFault (limit (ltb n 16) (Full place)) ≡ Some (Full place)
-unfolding limit firstFault
-none_left place n h = ap (λ b. firstFault (limit b (Full place))) (le-ltb n 16 h)
+pub none_left : (place n : ℕ) → 16 ≤ n → first_fault (limit (ltb n 16) (Full place)) ≡ Some (Full place)
+unfolding limit first_fault
+none_left place n h = ap (λ b. first_fault (limit b (Full place))) (le-ltb n 16 h)
 
-pub some_left : (place n : ℕ) → n < 16 → firstFault (limit (ltb n 16) (Full place)) ≡ None
-unfolding limit firstFault
-some_left place n h = ap (λ b. firstFault (limit b (Full place))) (lt-ltb n 16 h)
+pub some_left : (place n : ℕ) → n < 16 → first_fault (limit (ltb n 16) (Full place)) ≡ None
+unfolding limit first_fault
+some_left place n h = ap (λ b. first_fault (limit b (Full place))) (lt-ltb n 16 h)

@@ -7,9 +7,9 @@ use Rattle.language.specs.declared.refusal.Refusal.TheVariants.{Full, Large}
 use Rattle.language.specs.declared.owed.Duty.TheVariants.{Below, Above, Guard}
 use Rattle.language.specs.declared.refusal.Refusal.{Refusal}
 use Rattle.language.specs.declared.term.Term.{Term}
-use Rattle.language.specs.Terms.{zeroTerm}
+use Rattle.language.specs.Terms.{zero_term}
 use Rattle.language.specs.Comparing.{at_most}
-use Rattle.language.specs.Walking.{Note, owes, fault, Owing, owe, oweAll, oweChecks, obligationsOf, firstFault}
+use Rattle.language.specs.Walking.{Note, owes, fault, Owing, owe, owe_all, owe_checks, obligations_of, first_fault}
 use Rattle.language.proofs.Laws.{fault-first, fault-next}
 use Rattle.std.proofs.lemmas.List.{append-nil, append_assoc, length-append}
 use Rattle.records.specs.declared.laid.Laid.{Laid}
@@ -18,29 +18,29 @@ use Rattle.records.specs.Added.{OnePut}
 use Rattle.walking.specs.Owing.{Pays, Breaks, Paid, checks}
 
 module _ (duty : Duty) (place work : ℕ) (facts : List Row) (count : ℕ) where
-  pub owe-none : firstFault (owe duty place work facts count None).notes ≡ Some (Large work)
-  unfolding owe firstFault
+  pub owe-none : first_fault (owe duty place work facts count None).notes ≡ Some (Large work)
+  unfolding owe first_fault
   owe-none = refl
 
   module _ (row : Row) where
-    pub owe-full : 128 ≤ count → firstFault (owe duty place work facts count (Some row)).notes ≡ Some (Full work)
-    unfolding owe firstFault
+    pub owe-full : 128 ≤ count → first_fault (owe duty place work facts count (Some row)).notes ≡ Some (Full work)
+    unfolding owe first_fault
     owe-full h = ap (λ b. cond b None (Some (Full work))) (le-ltb count 128 h)
 
-    pub owe-fine : count < 128 → firstFault (owe duty place work facts count (Some row)).notes ≡ None
-    unfolding owe firstFault
+    pub owe-fine : count < 128 → first_fault (owe duty place work facts count (Some row)).notes ≡ None
+    unfolding owe first_fault
     owe-fine h = ap (λ b. cond b None (Some (Full work))) (lt-ltb count 128 h)
 
-    pub owe-one : obligationsOf (owe duty place work facts count (Some row)).notes ≡ record { number = count; duty = duty; place = place; facts = facts; goal = row } ∷ []
-    unfolding owe obligationsOf
+    pub owe-one : obligations_of (owe duty place work facts count (Some row)).notes ≡ record { number = count; duty = duty; place = place; facts = facts; goal = row } ∷ []
+    unfolding owe obligations_of
     owe-one = refl
 
     pub owe-count : (owe duty place work facts count (Some row)).count ≡ suc count
     unfolding owe
     owe-count = refl
 
-owed-append : (ms ns : List Note) → obligationsOf (ms ++ ns) ≡ obligationsOf ms ++ obligationsOf ns
-unfolding obligationsOf
+owed-append : (ms ns : List Note) → obligations_of (ms ++ ns) ≡ obligations_of ms ++ obligations_of ns
+unfolding obligations_of
 owed-append [] ns = refl
 owed-append (owes o work ∷ ms) ns = ap (λ os. o ∷ os) (owed-append ms ns)
 owed-append (fault r ∷ ms) ns = owed-append ms ns
@@ -60,7 +60,7 @@ pays-one t u duty place work facts row h p = record {
 
 -- nothing is owed
 pub pays-none : (t : Laid) → Pays (record { count = t.owed; notes = [] }) t t
-unfolding obligationsOf firstFault
+unfolding obligations_of first_fault
 pays-none t = record { faultless = refl; columns = refl; count = refl; number = omega arith; owes = λ os e w. subst (λ ps. OwesAll t.records.now ps) (sym (append-nil os)) w }
 
 -- one step after another
@@ -70,9 +70,9 @@ pays-then o p t u v a b =
       faultless = fault-next o.notes p.notes a.faultless ∙ b.faultless;
       columns = b.columns ∙ a.columns;
       count = b.count;
-      number = omega (arith, a.number, b.number, ap length e, length-append (obligationsOf o.notes) (obligationsOf p.notes));
-      owes = λ os h w. subst (λ ps. OwesAll v.records.now ps) (append_assoc os (obligationsOf o.notes) (obligationsOf p.notes) ∙ sym (ap (λ qs. os ++ qs) e))
-          (b.owes (os ++ obligationsOf o.notes) (omega (arith, a.number, length-append os (obligationsOf o.notes))) (a.owes os h w));
+      number = omega (arith, a.number, b.number, ap length e, length-append (obligations_of o.notes) (obligations_of p.notes));
+      owes = λ os h w. subst (λ ps. OwesAll v.records.now ps) (append_assoc os (obligations_of o.notes) (obligations_of p.notes) ∙ sym (ap (λ qs. os ++ qs) e))
+          (b.owes (os ++ obligations_of o.notes) (omega (arith, a.number, length-append os (obligations_of o.notes))) (a.owes os h w));
     }
 
 pub breaks-then : (r : Refusal) (o : Owing) (ns : List Note) (t u v : Laid) → Pays o t u → Breaks r ns u v → Breaks r (o.notes ++ ns) t v
@@ -90,20 +90,20 @@ module _ (place : ℕ) (facts : List Row) (count : ℕ) where
   abbrev guard : ℕ → Option Row → Owing
   guard n o = owe Guard place place facts n o
 
-  pub one-row : (o : Option Row) → oweAll place facts count (o ∷ []) ≡ guard count o
-  unfolding oweAll
+  pub one-row : (o : Option Row) → owe_all place facts count (o ∷ []) ≡ guard count o
+  unfolding owe_all
   one-row o = ap (λ ns. record { count = (guard count o).count; notes = ns }) (append-nil (guard count o).notes)
 
-  pub two-rows : (o p : Option Row) → oweAll place facts count (o ∷ p ∷ []) ≡ record { count = (guard (guard count o).count p).count; notes = (guard count o).notes ++ (guard (guard count o).count p).notes }
-  unfolding oweAll
+  pub two-rows : (o p : Option Row) → owe_all place facts count (o ∷ p ∷ []) ≡ record { count = (guard (guard count o).count p).count; notes = (guard count o).notes ++ (guard (guard count o).count p).notes }
+  unfolding owe_all
   two-rows o p = ap (λ ns. record { count = (guard (guard count o).count p).count; notes = (guard count o).notes ++ ns }) (append-nil (guard (guard count o).count p).notes)
 
 -- the checks of an index are two steps
 pub both-checks : (place work : ℕ) (facts : List Row) (count : ℕ) (index size : Term) →
     checks place work facts count index size
     ≡ record {
-      count = (owe Above place work facts (owe Below place work facts count (at_most (pos 0) zeroTerm index)).count (at_most (pos 1) index size)).count;
-      notes = (owe Below place work facts count (at_most (pos 0) zeroTerm index)).notes ++ (owe Above place work facts (owe Below place work facts count (at_most (pos 0) zeroTerm index)).count (at_most (pos 1) index size)).notes;
+      count = (owe Above place work facts (owe Below place work facts count (at_most (pos 0) zero_term index)).count (at_most (pos 1) index size)).count;
+      notes = (owe Below place work facts count (at_most (pos 0) zero_term index)).notes ++ (owe Above place work facts (owe Below place work facts count (at_most (pos 0) zero_term index)).count (at_most (pos 1) index size)).notes;
     }
-unfolding oweChecks
+unfolding owe_checks
 both-checks place work facts count index size = refl

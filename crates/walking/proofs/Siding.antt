@@ -7,13 +7,13 @@ use Rattle.std.proofs.lemmas.Option.{slice_get_within, get_or_from_slice_get, sl
 use Rattle.std.proofs.ByRecursion.{All-get_or}
 use Rattle.std.specs.List.{slice_get}
 use Rattle.language.specs.declared.term.Term.{Term}
-use Rattle.language.specs.Terms.{constant, each, zeroTerm, plus, scaled, fitsTerm, allNear, near}
+use Rattle.language.specs.Terms.{constant, each, zero_term, plus, scaled, fits_term, all_near, near}
 use Rattle.language.specs.Tree as Tree
-use Rattle.language.specs.Comparing.{atomTerm}
+use Rattle.language.specs.Comparing.{atom_term}
 use Rattle.records.specs.declared.condition.Item.{Item}
 use Rattle.records.specs.Tables.{stretch, item_of, side_in}
 use Rattle.terms.specs.declared.total.Total.{Total}
-use Rattle.terms.specs.Totals.{sum_of, sideFrom, takes, seen, taken}
+use Rattle.terms.specs.Totals.{sum_of, side_from, takes, seen, taken}
 use Rattle.walking.specs.Sides.{Fitting, Takable}
 
 -- a stretch is its first entry, and then the others
@@ -42,26 +42,26 @@ module _ (items : List Item) where
   item-near at x t e = subst (λ (i : Item). near i.factor ≡ true) (get_or_from_slice_get items at x x e) (All-get_or (λ (i : Item). near i.factor ≡ true) items at x (slice_get_within items at x e) t.near)
 
 module _ (ts : List Term) (r : Term) where
-  fits-constant : (b : Bool) → fitsTerm (constant (pos (cond b 1 0))) ≡ true
-  unfolding constant each allNear
+  fits-constant : (b : Bool) → fits_term (constant (pos (cond b 1 0))) ≡ true
+  unfolding constant each all_near
   fits-constant true = refl
   fits-constant false = refl
 
   -- what an item takes keeps the limits
-  pub atom-fits : Fitting ts → fitsTerm r ≡ true → (a : Tree.Atom) → fitsTerm (atomTerm ts r a) ≡ true
+  pub atom-fits : Fitting ts → fits_term r ≡ true → (a : Tree.Atom) → fits_term (atom_term ts r a) ≡ true
   atom-fits f h Tree.one = fits-constant true
   atom-fits f h (Tree.named i) = elim (cases_lt i (length ts)) [
-    | inl l ↦ All-get_or (λ t. fitsTerm t ≡ true) ts i zeroTerm l f
-    | inr l ↦ ap fitsTerm (get_or_past ts i zeroTerm l) ∙ fits-constant false
+    | inl l ↦ All-get_or (λ t. fits_term t ≡ true) ts i zero_term l f
+    | inr l ↦ ap fits_term (get_or_past ts i zero_term l) ∙ fits-constant false
   ]
   atom-fits f h Tree.result = h
 
-  pub from-item : (t : Term) (i : Tree.Item) (is : Tree.Side) → sideFrom ts r t (i ∷ is) ≡ sideFrom ts r (plus (scaled i.factor (atomTerm ts r i.atom)) t) is
-  unfolding sideFrom
+  pub from-item : (t : Term) (i : Tree.Item) (is : Tree.Side) → side_from ts r t (i ∷ is) ≡ side_from ts r (plus (scaled i.factor (atom_term ts r i.atom)) t) is
+  unfolding side_from
   from-item t i is = refl
 
-  pub from-none : (t : Term) → sideFrom ts r t [] ≡ t
-  unfolding sideFrom
+  pub from-none : (t : Term) → side_from ts r t [] ≡ t
+  unfolding side_from
   from-none t = refl
 
 counted : Option (ℕ × Term) → ℕ
@@ -69,10 +69,10 @@ counted None = 0
 counted (Some p) = p.0
 
 summed : Option (ℕ × Term) → Term
-summed None = zeroTerm
+summed None = zero_term
 summed (Some p) = p.1
 
-module _ (t : Total) (factor : ℤ) (u : Term) (few : t.count < 16384) (fine : near factor ≡ true) (fits : fitsTerm u ≡ true) where
+module _ (t : Total) (factor : ℤ) (u : Term) (few : t.count < 16384) (fine : near factor ≡ true) (fits : fits_term u ≡ true) where
   takes-it : takes t.count factor u ≡ true
   takes-it = and_from _ _ (lt-ltb t.count 16384 few) (and_from _ _ fine fits)
 

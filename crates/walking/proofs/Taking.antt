@@ -5,12 +5,12 @@ use Rattle.std.proofs.lemmas.Option.{slice_get-get_or}
 use Rattle.rows.specs.declared.row.Row.{Row}
 use Rattle.language.specs.declared.refusal.Refusal.{Refusal}
 use Rattle.language.specs.declared.term.Term.{Term}
-use Rattle.language.specs.Comparing.{conditionRows}
+use Rattle.language.specs.Comparing.{condition_rows}
 use Rattle.language.specs.Tree as Tree
-use Rattle.language.specs.Walking.{Known, Note, assume, assumeAll, firstFault}
+use Rattle.language.specs.Walking.{Known, Note, assume, assume_all, first_fault}
 use Rattle.language.proofs.Laws.{fault-first, fault-next}
 use Rattle.records.specs.Columns.{Columns, no_condition}
-use Rattle.records.specs.Tables.{conditionIn, conditionsIn}
+use Rattle.records.specs.Tables.{condition_in, conditions_in}
 use Rattle.walking.specs.Knowing.{Took}
 use Rattle.walking.proofs.Siding.{cut}
 
@@ -25,51 +25,51 @@ module _ (at : Tree.Condition → ℕ) (ts : List Term) (r : Term) where
   -- so much of the whole is taken, and these conditions are to come
   pub record Taking (whole : Known) (rest : List Tree.Condition) (before now : List Row) : Type 0 where
     pub so : List Note
-    pub faultless : firstFault so ≡ None
-    pub notes : whole.notes ≡ so ++ (assumeAll at ts r now rest).notes
-    pub facts : whole.facts ≡ (assumeAll at ts r now rest).facts
+    pub faultless : first_fault so ≡ None
+    pub notes : whole.notes ≡ so ++ (assume_all at ts r now rest).notes
+    pub facts : whole.facts ≡ (assume_all at ts r now rest).facts
     pub more : (xs : List Row) × (now ≡ before ++ xs)
 
-  pub taking_none : (cs : List Tree.Condition) (facts : List Row) → Taking (assumeAll at ts r facts cs) cs facts facts
-  unfolding firstFault
+  pub taking_none : (cs : List Tree.Condition) (facts : List Row) → Taking (assume_all at ts r facts cs) cs facts facts
+  unfolding first_fault
   taking_none cs facts = record { so = []; faultless = refl; notes = refl; facts = refl; more = ([], sym (append-nil facts)) }
 
-  all_notes : (c : Tree.Condition) (cs : List Tree.Condition) (facts : List Row) → (assumeAll at ts r facts (c ∷ cs)).notes ≡ (assume (at c) facts (conditionRows ts r c)).notes ++ (assumeAll at ts r (assume (at c) facts (conditionRows ts r c)).facts cs).notes
-  unfolding assumeAll
+  all_notes : (c : Tree.Condition) (cs : List Tree.Condition) (facts : List Row) → (assume_all at ts r facts (c ∷ cs)).notes ≡ (assume (at c) facts (condition_rows ts r c)).notes ++ (assume_all at ts r (assume (at c) facts (condition_rows ts r c)).facts cs).notes
+  unfolding assume_all
   all_notes c cs facts = refl
 
-  all_facts : (c : Tree.Condition) (cs : List Tree.Condition) (facts : List Row) → (assumeAll at ts r facts (c ∷ cs)).facts ≡ (assumeAll at ts r (assume (at c) facts (conditionRows ts r c)).facts cs).facts
-  unfolding assumeAll
+  all_facts : (c : Tree.Condition) (cs : List Tree.Condition) (facts : List Row) → (assume_all at ts r facts (c ∷ cs)).facts ≡ (assume_all at ts r (assume (at c) facts (condition_rows ts r c)).facts cs).facts
+  unfolding assume_all
   all_facts c cs facts = refl
 
-  pub taking_turn : (whole : Known) (c : Tree.Condition) (cs : List Tree.Condition) (before now after : List Row) → Taking whole (c ∷ cs) before now → Took (Ok tt) (assume (at c) now (conditionRows ts r c)) now after → Taking whole cs before after
+  pub taking_turn : (whole : Known) (c : Tree.Condition) (cs : List Tree.Condition) (before now after : List Row) → Taking whole (c ∷ cs) before now → Took (Ok tt) (assume (at c) now (condition_rows ts r c)) now after → Taking whole cs before after
   taking_turn whole c cs before now after g t =
-      let k = assume (at c) now (conditionRows ts r c) in
-      let m = facts-more (at c) now (conditionRows ts r c) in record {
+      let k = assume (at c) now (condition_rows ts r c) in
+      let m = facts-more (at c) now (condition_rows ts r c) in record {
         so = g.so ++ k.notes;
         faultless = fault-next g.so k.notes g.faultless ∙ t.0;
-        notes = g.notes ∙ ap (λ ns. g.so ++ ns) (all_notes c cs now ∙ ap (λ fs. k.notes ++ (assumeAll at ts r fs cs).notes) (sym t.1)) ∙ sym (append_assoc g.so k.notes _);
-        facts = g.facts ∙ all_facts c cs now ∙ ap (λ fs. (assumeAll at ts r fs cs).facts) (sym t.1);
+        notes = g.notes ∙ ap (λ ns. g.so ++ ns) (all_notes c cs now ∙ ap (λ fs. k.notes ++ (assume_all at ts r fs cs).notes) (sym t.1)) ∙ sym (append_assoc g.so k.notes _);
+        facts = g.facts ∙ all_facts c cs now ∙ ap (λ fs. (assume_all at ts r fs cs).facts) (sym t.1);
         more = (g.more.0 ++ m.0, t.1 ∙ m.1 ∙ ap (λ xs. xs ++ m.0) g.more.1 ∙ append_assoc before g.more.0 m.0);
       }
 
-  pub taking_break : (whole : Known) (e : Refusal) (c : Tree.Condition) (cs : List Tree.Condition) (before now after : List Row) → Taking whole (c ∷ cs) before now → Took (Err e) (assume (at c) now (conditionRows ts r c)) now after → Took (Err e) whole before after
+  pub taking_break : (whole : Known) (e : Refusal) (c : Tree.Condition) (cs : List Tree.Condition) (before now after : List Row) → Taking whole (c ∷ cs) before now → Took (Err e) (assume (at c) now (condition_rows ts r c)) now after → Took (Err e) whole before after
   taking_break whole e c cs before now after g t =
-      let k = assume (at c) now (conditionRows ts r c) in (
-        ap firstFault (g.notes ∙ ap (λ ns. g.so ++ ns) (all_notes c cs now)) ∙ fault-next g.so _ g.faultless ∙ fault-first k.notes _ e t.0,
+      let k = assume (at c) now (condition_rows ts r c) in (
+        ap first_fault (g.notes ∙ ap (λ ns. g.so ++ ns) (all_notes c cs now)) ∙ fault-next g.so _ g.faultless ∙ fault-first k.notes _ e t.0,
         (g.more.0 ++ t.1.0, t.1.1 ∙ ap (λ xs. xs ++ t.1.0) g.more.1 ∙ append_assoc before g.more.0 t.1.0),
       )
 
   pub taking-end : (whole : Known) (before now : List Row) → Taking whole [] before now → Took (Ok tt) whole before now
-  unfolding assumeAll
-  taking-end whole before now g = (ap firstFault (g.notes ∙ append-nil g.so) ∙ g.faultless, sym g.facts)
+  unfolding assume_all
+  taking-end whole before now g = (ap first_fault (g.notes ∙ append-nil g.so) ∙ g.faultless, sym g.facts)
 
 -- the condition at a position, and then the others
 module _ (p : Columns) where
-  pub conditions-step : (from to : ℕ) → from < to → to ≤ length p.conditions.entries → conditionsIn p.items.entries p.conditions.entries from to ≡ conditionIn p.items.entries (get_or p.conditions.entries from no_condition) ∷ conditionsIn p.items.entries p.conditions.entries (from + 1) to
-  unfolding conditionsIn
-  conditions-step from to h l = ap (map (conditionIn p.items.entries)) (cut p.conditions.entries from to _ h (slice_get-get_or p.conditions.entries from no_condition (omega arith)))
+  pub conditions-step : (from to : ℕ) → from < to → to ≤ length p.conditions.entries → conditions_in p.items.entries p.conditions.entries from to ≡ condition_in p.items.entries (get_or p.conditions.entries from no_condition) ∷ conditions_in p.items.entries p.conditions.entries (from + 1) to
+  unfolding conditions_in
+  conditions-step from to h l = ap (map (condition_in p.items.entries)) (cut p.conditions.entries from to _ h (slice_get-get_or p.conditions.entries from no_condition (omega arith)))
 
-  pub conditions-none : (from to : ℕ) → to ≤ from → conditionsIn p.items.entries p.conditions.entries from to ≡ []
-  unfolding conditionsIn
-  conditions-none from to h = ap (λ n. map (conditionIn p.items.entries) (take n (drop from p.conditions.entries))) (let z : to - from ≡ 0 = omega arith in z)
+  pub conditions-none : (from to : ℕ) → to ≤ from → conditions_in p.items.entries p.conditions.entries from to ≡ []
+  unfolding conditions_in
+  conditions-none from to h = ap (λ n. map (condition_in p.items.entries) (take n (drop from p.conditions.entries))) (let z : to - from ≡ 0 = omega arith in z)

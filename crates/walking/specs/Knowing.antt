@@ -10,18 +10,18 @@ use Rattle.language.specs.Terms.{quantity}
 use Rattle.language.specs.Tree as Tree
 use Rattle.records.specs.declared.condition.Condition.{Condition}
 use Rattle.records.specs.declared.condition.Item.{Item}
-use Rattle.records.specs.Tables.{conditionIn}
-use Rattle.language.specs.Walking.{Known, limit, firstFault}
+use Rattle.records.specs.Tables.{condition_in}
+use Rattle.language.specs.Walking.{Known, limit, first_fault}
 
 -- rows were taken as facts; or the first fault on the way refuses, and the facts begin as before
 abbrev pub Took : Result (Unit {0}) Refusal → Known → List Row → List Row → Type 0
-Took (Ok u) k before after = (firstFault k.notes ≡ None) × (after ≡ k.facts)
-Took (Err r) k before after = (firstFault k.notes ≡ Some r) × ((more : List Row) × (after ≡ before ++ more))
+Took (Ok u) k before after = (first_fault k.notes ≡ None) × (after ≡ k.facts)
+Took (Err r) k before after = (first_fault k.notes ≡ Some r) × ((more : List Row) × (after ≡ before ++ more))
 
 -- the next quantity was taken; or there is none
 abbrev pub Fresh : Result Term Refusal → ℕ → ℕ → ℕ → Type 0
-Fresh (Ok t) place before after = (t ≡ quantity before) × (after ≡ suc before) × (firstFault (limit (nat_lt before quantities) (Full place)) ≡ None)
-Fresh (Err r) place before after = firstFault (limit (nat_lt before quantities) (Full place)) ≡ Some r
+Fresh (Ok t) place before after = (t ≡ quantity before) × (after ≡ suc before) × (first_fault (limit (nat_lt before quantities) (Full place)) ≡ None)
+Fresh (Err r) place before after = first_fault (limit (nat_lt before quantities) (Full place)) ≡ Some r
 
 -- the given place, else the condition's own
 abbrev pub placed : Option ℕ → Tree.Condition → ℕ
@@ -30,4 +30,4 @@ placed None c = c.place
 
 -- so it is of the condition at a position, if there is one
 abbrev pub PlacedAt : ℕ → Option ℕ → List Condition → ℕ → Type 0
-PlacedAt n place conditions at = (c : Condition) (items : List Item) → slice_get conditions at ≡ Some c → n ≡ placed place (conditionIn items c)
+PlacedAt n place conditions at = (c : Condition) (items : List Item) → slice_get conditions at ≡ Some c → n ≡ placed place (condition_in items c)

@@ -3,7 +3,7 @@ use Rattle.std.specs.Prelude.{◌≡◌, ℕ, ◌+◌, ◌≤◌, List, ◌++◌
 use Rattle.language.specs.declared.refusal.Refusal.{Refusal}
 use Rattle.rows.specs.declared.row.Row.{Row}
 use Rattle.language.specs.declared.term.Term.{Term}
-use Rattle.language.specs.Walking.{Note, Obligation, Owing, oweChecks, obligationsOf, firstFault}
+use Rattle.language.specs.Walking.{Note, Obligation, Owing, owe_checks, obligations_of, first_fault}
 use Rattle.records.specs.declared.laid.Laid.{Laid}
 use Rattle.records.specs.Laying.{columns_of}
 use Rattle.records.specs.Owing.{OwesAll}
@@ -14,15 +14,15 @@ Spacious t = 3200 ≤ length t.records.now
 
 -- no fault is noted, and the obligations that are noted join those that stood in the tables, which stay otherwise
 pub record Pays (o : Owing) (t u : Laid) : Type 0 where
-  pub faultless : firstFault o.notes ≡ None
+  pub faultless : first_fault o.notes ≡ None
   pub columns : columns_of u ≡ columns_of t
   pub count : u.owed ≡ o.count
-  pub number : u.owed ≡ t.owed + length (obligationsOf o.notes)
-  pub owes : (os : List Obligation) → length os ≡ t.owed → OwesAll t.records.now os → OwesAll u.records.now (os ++ obligationsOf o.notes)
+  pub number : u.owed ≡ t.owed + length (obligations_of o.notes)
+  pub owes : (os : List Obligation) → length os ≡ t.owed → OwesAll t.records.now os → OwesAll u.records.now (os ++ obligations_of o.notes)
 
 -- the first fault that is noted, in the same records
 pub record Breaks (r : Refusal) (notes : List Note) (t u : Laid) : Type 0 where
-  pub fault : firstFault notes ≡ Some r
+  pub fault : first_fault notes ≡ Some r
   pub columns : columns_of u ≡ columns_of t
 
 abbrev pub Paid : Result (Unit {0}) Refusal → Owing → Laid → Laid → Type 0
@@ -31,4 +31,4 @@ Paid (Err r) o t u = Breaks r o.notes t u
 
 -- the two checks of an index, at a list's name, with these facts in force and so many obligations
 abbrev pub checks : ℕ → ℕ → List Row → ℕ → Term → Term → Owing
-checks place work facts count index size = oweChecks (record { place = place; number = 0; list = 0 }) work (record { next = 0; facts = facts; count = count }) index size
+checks place work facts count index size = owe_checks (record { place = place; number = 0; list = 0 }) work (record { next = 0; facts = facts; count = count }) index size

@@ -1,8 +1,8 @@
 ghost use Rattle.std.specs.Prelude.{◌≡◌, ◌≤◌, true, length};
-ghost use Rattle.language.specs.Terms.{fitsTerm};
-ghost use Rattle.language.specs.Walking.{oweAll, assumeAll};
+ghost use Rattle.language.specs.Terms.{fits_term};
+ghost use Rattle.language.specs.Walking.{owe_all, assume_all};
 ghost use Rattle.pile.specs.Entries.{entries, room};
-ghost use Rattle.records.specs.Tables.{conditionsIn};
+ghost use Rattle.records.specs.Tables.{conditions_in};
 ghost use Rattle.walking.specs.Knowing.{Took, placed, PlacedAt};
 ghost use Rattle.records.specs.Laying.{columns_of};
 ghost use Rattle.walking.specs.Owing.{Spacious, Paid};
@@ -29,10 +29,10 @@ pub fn owe_conditions(
     requires spacious { Spacious tables.old }
     requires few { length facts.now ≤ 24 }
     requires names { Fitting names.now }
-    requires outcome { fitsTerm outcome.now ≡ true }
+    requires outcome { fits_term outcome.now ≡ true }
     requires sound { Sound (columns_of tables.old) }
     requires within { to ≤ length (columns_of tables.old).conditions.entries }
-    ensures { Paid result (oweAll place facts.now tables.old.owed (rows_in (columns_of tables.old) names.now outcome.now from to)) tables.old tables.new }
+    ensures { Paid result (owe_all place facts.now tables.old.owed (rows_in (columns_of tables.old) names.now outcome.now from to)) tables.old tables.new }
 {
     for at in from..to {
         let rows = condition_rows_at(tables, names, outcome, at);
@@ -66,10 +66,10 @@ pub fn assume_conditions(
 ) -> Result<(), Refusal>
     requires room { 24 ≤ room facts.old }
     requires names { Fitting names.now }
-    requires outcome { fitsTerm outcome.now ≡ true }
+    requires outcome { fits_term outcome.now ≡ true }
     requires sound { Sound (columns_of tables.now) }
     requires within { to ≤ length (columns_of tables.now).conditions.entries }
-    ensures took { Took result (assumeAll (placed place) names.now outcome.now (entries facts.old) (conditionsIn (columns_of tables.now).items.entries (columns_of tables.now).conditions.entries from to)) (entries facts.old) (entries facts.new) }
+    ensures took { Took result (assume_all (placed place) names.now outcome.now (entries facts.old) (conditions_in (columns_of tables.now).items.entries (columns_of tables.now).conditions.entries from to)) (entries facts.old) (entries facts.new) }
     ensures room { room facts.new ≡ room facts.old }
 {
     for at in from..to {

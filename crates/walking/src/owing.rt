@@ -1,5 +1,5 @@
 ghost use Rattle.std.specs.Prelude.{◌≡◌, ◌≤◌, length};
-ghost use Rattle.language.specs.Walking.{owe, oweAll};
+ghost use Rattle.language.specs.Walking.{owe, owe_all};
 ghost use Rattle.terms.specs.Listed.{list_of};
 ghost use Rattle.walking.specs.Owing.{Spacious, Paid, checks};
 
@@ -43,7 +43,7 @@ pub fn owe_rows(
 ) -> Result<(), Refusal>
     requires spacious { Spacious tables.old }
     requires few { length facts.now ≤ 24 }
-    ensures { Paid result (oweAll place facts.now tables.old.owed (list_of rows)) tables.old tables.new }
+    ensures { Paid result (owe_all place facts.now tables.old.owed (list_of rows)) tables.old tables.new }
 {
     match rows {
         Rows::One(row) => owe(tables, facts, Duty::Guard, place, place, row),

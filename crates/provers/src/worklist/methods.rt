@@ -1,5 +1,5 @@
 ghost use Rattle.std.specs.Prelude.{◌≡◌, [], ◌∷◌, Some};
-ghost use Rattle.provers.specs.Elimination.{pushAll};
+ghost use Rattle.provers.specs.Elimination.{push_all};
 ghost use Rattle.provers.specs.WorkLists.{entries, answered};
 
 use super::{MOST_ROWS, WorkList};
@@ -34,7 +34,7 @@ impl WorkList {
 
     // None where the list is full.
     pub fn push(&mut self, row: Derived) -> Option<()>
-        ensures { answered result (entries self.new) ≡ pushAll (entries self.old) (Some row ∷ []) }
+        ensures { answered result (entries self.new) ≡ push_all (entries self.old) (Some row ∷ []) }
     {
         if self.count >= MOST_ROWS {
             return None;

@@ -1,5 +1,5 @@
 ghost use Rattle.std.specs.Prelude.{◌≡◌};
-ghost use Rattle.rows.specs.Limits.{small, allSmall, fits};
+ghost use Rattle.rows.specs.Limits.{small, all_small, fits};
 ghost use Rattle.rows.specs.Meaning.{coef};
 ghost use Rattle.rows.specs.Rows.{row_of};
 
@@ -12,7 +12,7 @@ fn is_small(x: i32) -> bool
 }
 
 fn all_small(xs: &[i32]) -> bool
-    ensures { result ≡ allSmall xs.now }
+    ensures { result ≡ all_small xs.now }
 {
     for x in xs {
         if !is_small(*x) {

@@ -1,5 +1,5 @@
 ghost use Rattle.std.specs.Prelude.{◌≡◌};
-ghost use Rattle.language.specs.Terms.{zeroTerm, limited};
+ghost use Rattle.language.specs.Terms.{zero_term, limited};
 ghost use Rattle.terms.specs.Totals.{sum_of, takes, seen, taken, InTurn};
 
 use super::{MOST_ITEMS, Total};
@@ -18,7 +18,7 @@ impl Total {
     // The total of no items. The items of a side that are added to it in turn come to the side.
     pub fn zero() -> Total
         ensures count { result.count ≡ 0 }
-        ensures sum { sum_of result ≡ zeroTerm }
+        ensures sum { sum_of result ≡ zero_term }
         ensures turn { InTurn }
     {
         Total {

@@ -1,8 +1,8 @@
 use Rattle.std.proofs.Common.{◌≡◌, suc, ◌++◌, length, sym, ap, ◌∙◌}
-use Rattle.naming.specs.Sources.{rulesOf}
+use Rattle.naming.specs.Sources.{rules_of}
 use Rattle.naming.proofs.Smallest.{least-both}
 use Rattle.records.specs.Laying.{columns_of}
-use Rattle.counting.specs.Counts.{rulesOver, headsOver, firstOver, flatFault}
+use Rattle.counting.specs.Counts.{rules_over, heads_over, first_over, flat_fault}
 use Rattle.counting.proofs.Rules.{least-listed}
 use Rattle.counting.proofs.Flat.{exprs-placed, conditions-placed, nodes-rise, conditions-rise}
 use Rattle.counting.proofs.Limits.{none_within, within_none}
@@ -10,11 +10,11 @@ use Rattle.counting.proofs.fault.count_fault.Goals as goal
 
 pub returns : goal.returns
 returns c =
-    let w = c.args.sheet in let bytes = length w.text.now in let rules = rulesOf w in
+    let w = c.args.sheet in let bytes = length w.text.now in let rules = rules_of w in
     let cols = columns_of c.args.tables.now in let nodes = cols.nodes.entries in let conditions = cols.conditions.entries in
-    let a = c.first_over-exprs.ensures.value ∙ ap (λ f. firstOver 1024 f 0 (suc bytes)) (exprs-placed cols) ∙ least-listed _ in
-    let b = c.first_over-listed.ensures.value ∙ ap (λ f. firstOver 128 f 0 (suc bytes)) (conditions-placed cols) ∙ least-listed _ in
-    let v : c.earlier-2.result ≡ flatFault bytes rules nodes conditions = least-both (rulesOver rules ++ headsOver rules) _ c.earlier-2.ensures (least-both (rulesOver rules) (headsOver rules) c.earlier-heads.ensures c.rules_over.ensures c.heads_over.ensures) (least-both _ _ c.earlier.ensures a b) in
+    let a = c.first_over-exprs.ensures.value ∙ ap (λ f. first_over 1024 f 0 (suc bytes)) (exprs-placed cols) ∙ least-listed _ in
+    let b = c.first_over-listed.ensures.value ∙ ap (λ f. first_over 128 f 0 (suc bytes)) (conditions-placed cols) ∙ least-listed _ in
+    let v : c.earlier-2.result ≡ flat_fault bytes rules nodes conditions = least-both (rules_over rules ++ heads_over rules) _ c.earlier-2.ensures (least-both (rules_over rules) (heads_over rules) c.earlier-heads.ensures c.rules_over.ensures c.heads_over.ensures) (least-both _ _ c.earlier.ensures a b) in
     record {
       value = v;
       within = λ e. none_within bytes rules _ _ (sym v ∙ e);

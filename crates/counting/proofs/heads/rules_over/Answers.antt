@@ -1,7 +1,7 @@
 use Rattle.std.proofs.Common.{◌≡◌, length, Some, sym, ap, ◌∙◌, arith}
 use Rattle.letters.specs.declared.token.Token.{Token}
-use Rattle.grammar.specs.Trees.{rulesTo}
-use Rattle.naming.specs.Sources.{source_of, rulesOf}
+use Rattle.grammar.specs.Trees.{rules_to}
+use Rattle.naming.specs.Sources.{source_of, rules_of}
 use Rattle.naming.proofs.Grown.{rule-here, rule-not}
 use Rattle.counting.proofs.Rules.{rules-none, rules-same, rules-more, rules-past, rules-few}
 use Rattle.counting.proofs.heads.rules_over.Goals as goal
@@ -17,7 +17,7 @@ loop-at-preserved-in_default c =
 pub returns-then-rules-eq-MOST_RULES : goal.returns-then-rules-eq-MOST_RULES
 returns-then-rules-eq-MOST_RULES c =
     let w = c.args.sheet in let s = source_of w in let at = c.loop-at.at in
-    let few : length (rulesTo s at w.nodes.now) ≡ 32 = omega (arith, c.loop-at.invariant.0) in
+    let few : length (rules_to s at w.nodes.now) ≡ 32 = omega (arith, c.loop-at.invariant.0) in
     ap (λ (t : Token). Some t.place) c.token.ensures ∙ rules-past s w.nodes.now at (length w.nodes.now) _ (rule-here s w.nodes.now at c.in-Some.rule c.in-Some.ensures) few (omega arith)
 
 pub loop-at-preserved : goal.loop-at-preserved
@@ -30,4 +30,4 @@ pub returns : goal.returns
 returns c =
     let w = c.args.sheet in let s = source_of w in
     let e : c.loop-at.at ≡ length w.nodes.now = omega arith in
-    rules-few (rulesOf w) (omega (arith, c.loop-at.invariant.0, c.loop-at.invariant.1, ap (λ n. length (rulesTo s n w.nodes.now)) e))
+    rules-few (rules_of w) (omega (arith, c.loop-at.invariant.0, c.loop-at.invariant.1, ap (λ n. length (rules_to s n w.nodes.now)) e))

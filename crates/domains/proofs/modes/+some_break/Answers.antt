@@ -1,5 +1,5 @@
 use Rattle.std.proofs.Common.{◌≡◌, ℕ, ◌-◌, Bool, set, sym, refl, ap, ◌∙◌, arith}
-use Rattle.ints.specs.Tests.{anyBelow}
+use Rattle.ints.specs.Tests.{any_below}
 use Rattle.ints.proofs.Belows.{any-more, any_found}
 use Rattle.domains.specs.Modes.{broken}
 use Rattle.domains.proofs.Trying.{broken-skip, broken-each, broken-none}
@@ -12,7 +12,7 @@ pub returns-then-not-flags-j : goal.returns-then-not-flags-j
 returns-then-not-flags-j t c = c.some_break.ensures ∙ sym (broken-skip c.args.facts.now c.args.goal.now c.args.n c.args.point c.if-n-eq0.false (sym (c.requires.flagged _ (omega arith)) ∙ c.if-not-flags-j.true))
 
 pub loop-v-init : goal.loop-v-init
-unfolding anyBelow
+unfolding any_below
 loop-v-init t c = refl
 
 pub returns-then-some_break : goal.returns-then-some_break
@@ -29,4 +29,4 @@ pub returns : goal.returns
 returns t c =
     let f : ℕ → Bool = λ v. broken c.args.facts.now c.args.goal.now (c.args.n - 1) (set c.args.point (c.args.n - 1) v) in
     let e : c.loop-v.v ≡ 16 = omega arith in
-    sym (broken-each c.args.facts.now c.args.goal.now c.args.n c.args.point c.if-n-eq0.false (sym (c.requires.flagged _ (omega arith)) ∙ c.if-not-flags-j.false) ∙ ap (λ n. anyBelow n f) (sym e) ∙ c.loop-v.invariant)
+    sym (broken-each c.args.facts.now c.args.goal.now c.args.n c.args.point c.if-n-eq0.false (sym (c.requires.flagged _ (omega arith)) ∙ c.if-not-flags-j.false) ∙ ap (λ n. any_below n f) (sym e) ∙ c.loop-v.invariant)

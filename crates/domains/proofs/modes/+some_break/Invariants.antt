@@ -1,5 +1,5 @@
 use Rattle.std.proofs.Common.{◌≡◌, false, set}
-use Rattle.ints.specs.Tests.{anyBelow}
+use Rattle.ints.specs.Tests.{any_below}
 use Rattle.domains.specs.Modes.{broken}
 use Rattle.domains.proofs.modes.+some_break.Given as goal
 
@@ -7,4 +7,4 @@ abbrev pub decreases-some_break : goal.decreases-some_break
 decreases-some_break l = l.n
 
 abbrev pub invariant-loop-v : goal.invariant-loop-v
-invariant-loop-v l = anyBelow l.v (λ v. broken l.facts l.goal l.j (set l.point l.j v)) ≡ false
+invariant-loop-v l = any_below l.v (λ v. broken l.facts l.goal l.j (set l.point l.j v)) ≡ false

@@ -4,7 +4,7 @@ use Rattle.std.proofs.lemmas.Result.{err_from_is_err_and, IfOk-from_err}
 use Rattle.letters.specs.declared.misspelt.Misspelt.{Misspelt}
 use Rattle.letters.specs.declared.misspelt.Misspelt.TheVariants.{Letter}
 use Rattle.letters.specs.declared.token.Token.{Token}
-use Rattle.letters.specs.Cuts.{cutFrom}
+use Rattle.letters.specs.Cuts.{cut_from}
 use Rattle.letters.proofs.Good.{part-fits}
 use Rattle.letters.proofs.Steps.{before, before-push, cut-blank, cut-bad, cut-full, cut-part, cut-end}
 use Rattle.letters.proofs.Finishing.{finish, finish-long, Finished}
@@ -36,7 +36,7 @@ loop-at-preserved c =
     let t = c.in-Part.token in let n = c.loop-at.count in let ts = c.loop-at.tokens in let old = c.args.tokens.now in
     let f = part-fits c.args.text.now c.loop-at.at t c.loop-at-test.true c.in-Part.ensures in
     let room : n < length ts = omega arith in
-    let rest = cutFrom 0 c.in_ok-depth-in-Part.depth (c.loop-at.at + t.size) (drop (c.loop-at.at + t.size) c.args.text.now) in (
+    let rest = cut_from 0 c.in_ok-depth-in-Part.depth (c.loop-at.at + t.size) (drop (c.loop-at.at + t.size) c.args.text.now) in (
       f.1,
       omega arith,
       simp length-set c.loop-at.invariant.2,

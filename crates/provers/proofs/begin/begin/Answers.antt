@@ -1,5 +1,5 @@
 use Rattle.std.proofs.Common.{sym, refl, ap, ◌∙◌, arith}
-use Rattle.provers.specs.Elimination.{pushAll, goalOf}
+use Rattle.provers.specs.Elimination.{push_all, goal_of}
 use Rattle.provers.specs.WorkLists.{entries, answered}
 use Rattle.provers.proofs.Pushing.{fact-on, fact-off, fact-end}
 use Rattle.provers.proofs.begin.begin.Goals as goal
@@ -19,4 +19,4 @@ loop-i-preserved c =
 pub returns : goal.returns
 returns c =
     let a = entries c.loop-i.into in let facts = c.args.question.facts.now in let goal = c.args.question.goal.now in
-    c.push_goal.ensures ∙ ap (λ n. pushAll a (goalOf n goal)) (omega arith) ∙ sym (c.loop-i.invariant ∙ fact-end a facts goal c.loop-i.i c.loop-i-test.false)
+    c.push_goal.ensures ∙ ap (λ n. push_all a (goal_of n goal)) (omega arith) ∙ sym (c.loop-i.invariant ∙ fact-end a facts goal c.loop-i.i c.loop-i-test.false)

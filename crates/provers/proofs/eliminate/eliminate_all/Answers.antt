@@ -1,5 +1,5 @@
 use Rattle.std.proofs.Common.{◌+◌, ◌*◌, sym, refl, ap, ◌∙◌, arith}
-use Rattle.provers.specs.Elimination.{without, withoutAll, from}
+use Rattle.provers.specs.Elimination.{without, without_all, from}
 use Rattle.provers.specs.WorkLists.{entries, answered}
 use Rattle.provers.proofs.Pushing.{leave-on, leave-off, leave-end}
 use Rattle.provers.proofs.eliminate.eliminate_all.Goals as goal
@@ -25,7 +25,7 @@ loop-turn-preserved c =
     let d = entries c.eliminate-in-loop-turn.new.into in
     c.loop-turn.invariant ∙ leave-on q a b (omega arith) (c.in_ok-eliminate.ensures ∙ ap (without q) c.rows.ensures)
     ∙ leave-on (q + 1) b d (omega arith) (c.in_ok-eliminate-2.ensures ∙ ap (without (q + 1)) c.rows-in-loop-turn.ensures)
-    ∙ ap (λ n. withoutAll (from n) d) (omega arith)
+    ∙ ap (λ n. without_all (from n) d) (omega arith)
 
 pub returns : goal.returns
 returns c = sym (c.loop-turn.invariant ∙ leave-end (2 * c.loop-turn.turn) (entries c.loop-turn.rows) (omega arith))

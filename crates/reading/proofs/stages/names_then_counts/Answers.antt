@@ -1,5 +1,5 @@
 use Rattle.std.proofs.Common.{List, length, sym, refl, ap, ◌∙◌, subst, inr}
-use Rattle.naming.specs.Sources.{sheetIn}
+use Rattle.naming.specs.Sources.{sheet_in}
 use Rattle.records.specs.declared.record.Record.{Record}
 use Rattle.records.specs.Columns.{Columns}
 use Rattle.records.specs.Laying.{columns_of}
@@ -35,7 +35,7 @@ returns-in-None c =
     let t = c.resolve.new.tables in
     let m = same-made w text ts ns same (columns_of t) c.resolve.ensures.made in
     let lent = sym (c.resolve.ensures.rooms.lender ∙ ap (λ (p : Columns). p.lender) c.over-tables.ensures.columns) in
-    let rules = Resolving.sheetOf text (sheetIn text ts ns) in record {
+    let rules = Resolving.sheet_of text (sheet_in text ts ns) in record {
       named = sym c.in_default.ensures;
       counted = sym (same-fault w text ts ns same _ (columns_of t) m c.in-None.ensures.value);
       stand = subst (λ (rs : List Record). Stand rs c.entries.result rules) (sym (c.records-in-None-1.given.1.1 lent)) (stands t c.entries.result rules m.stand c.entries.ensures);

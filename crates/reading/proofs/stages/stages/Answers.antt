@@ -2,10 +2,10 @@ use Rattle.std.proofs.Common.{◌≡◌, ℕ, ◌-◌, Bool, [], length, take, �
 use Rattle.std.proofs.lemmas.Int.{to_z-of_z}
 use Rattle.letters.specs.Cuts.{cut_of}
 use Rattle.letters.specs.Spelling as Spelling
-use Rattle.grammar.specs.Parsers.{lookIn}
+use Rattle.grammar.specs.Parsers.{look_in}
 use Rattle.syntax.specs.Derives.{DSheet}
 use Rattle.syntax.specs.Lawful.{OnlySheet}
-use Rattle.naming.specs.Sources.{sheetIn}
+use Rattle.naming.specs.Sources.{sheet_in}
 use Rattle.language.specs.declared.refusal.Refusal.{Refusal}
 use Rattle.reading.specs.Reading.{Reads, in_range, out_of_range, misspelt}
 use Rattle.reading.proofs.Staging.{cut_ok, cut-err, cut-front, cut-few, small, sheet-is, refused-by-grammar, checked-answers, enough}
@@ -42,7 +42,7 @@ names_then_counts-requires c =
     let long = c.parse.auto.nodes in record {
       small = small text ts r (length text);
       few = few;
-      derived = subst (DSheet (lookIn ts (length text))) (sym (sheet-is text ts c.parse.new.nodes c.in-Ok-parse.made few (omega (arith, s.within, long)) s.within)) c.in-Ok-parse.ensures.law.derived;
+      derived = subst (DSheet (look_in ts (length text))) (sym (sheet-is text ts c.parse.new.nodes c.in-Ok-parse.made few (omega (arith, s.within, long)) s.within)) c.in-Ok-parse.ensures.law.derived;
       ample = enough c.args.low c.args.high (length c.args.records.now) i;
     }
 
@@ -54,8 +54,8 @@ returns c =
     let few = cut-few text _ c.cut.new.tokens n 16384 e.value e.written e.few in
     let s = c.in-Ok-parse.ensures.parsed.said.1 in
     let long = c.parse.auto.nodes in
-    let sheet = sheetIn text ts (take (c.in-Ok-parse.made - 0) c.parse.new.nodes) in
-    let only : OnlySheet (lookIn ts (length text)) sheet = subst (OnlySheet (lookIn ts (length text))) (sym (sheet-is text ts c.parse.new.nodes c.in-Ok-parse.made few (omega (arith, s.within, long)) s.within)) c.in-Ok-parse.ensures.law in
+    let sheet = sheet_in text ts (take (c.in-Ok-parse.made - 0) c.parse.new.nodes) in
+    let only : OnlySheet (look_in ts (length text)) sheet = subst (OnlySheet (look_in ts (length text))) (sym (sheet-is text ts c.parse.new.nodes c.in-Ok-parse.made few (omega (arith, s.within, long)) s.within)) c.in-Ok-parse.ensures.law in
     checked-answers c.names_then_counts.result text _ _ (length c.args.records.now) sheet _ i (sym c.names_then_counts.auto.records) (cut_ok (cut_of text) n e.value).0
-    (subst (λ us. OnlySheet (lookIn us (length text)) sheet) (cut-front text _ c.cut.new.tokens n e.value e.written) only)
+    (subst (λ us. OnlySheet (look_in us (length text)) sheet) (cut-front text _ c.cut.new.tokens n e.value e.written) only)
     c.names_then_counts.ensures

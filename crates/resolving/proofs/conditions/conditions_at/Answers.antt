@@ -4,9 +4,9 @@ use Rattle.std.proofs.lemmas.List.Sums.{sum_by-cons}
 use Rattle.letters.specs.declared.kind.Kind.TheVariants.{Comma}
 use Rattle.letters.specs.declared.token.Token.{Token}
 use Rattle.grammar.specs.Parsers.{is_a}
-use Rattle.grammar.specs.Stretches.{conditionAt, conditionsAt}
+use Rattle.grammar.specs.Stretches.{condition_at, conditions_at}
 use Rattle.grammar.specs.Trees.{look_of}
-use Rattle.syntax.specs.Weights.{conditionWeight, conditionsWeight}
+use Rattle.syntax.specs.Weights.{condition_weight, conditions_weight}
 use Rattle.records.specs.Laying.{columns_of}
 use Rattle.naming.specs.Reaches.{scope_of}
 use Rattle.naming.specs.Sources.{source_of}
@@ -14,7 +14,7 @@ use Rattle.naming.specs.Stretching as Stretching
 use Rattle.naming.proofs.Begins.{comma-stands}
 use Rattle.naming.proofs.Joins.{rest-none, rest_out}
 use Rattle.naming.proofs.Turns.{conditions-list}
-use Rattle.resolving.specs.Resolving.{conditionOf}
+use Rattle.resolving.specs.Resolving.{condition_of}
 use Rattle.resolving.proofs.Listings.{under_none, under-turn, under_all, under-in, clamped}
 use Rattle.resolving.proofs.Rests.{rest_more}
 use Rattle.records.specs.declared.condition.Condition.{Condition as Listed}
@@ -27,8 +27,8 @@ use Rattle.resolving.proofs.conditions.conditions_at.Goals.{then-loop-rest-test+
 pub condition_at-first-requires : goal.condition_at-first-requires
 condition_at-first-requires c =
     let w = c.args.sheet in let l = look_of (source_of w) in let n = length w.tokens.now in let i = c.min.result in
-    let e = sym (clamped w.tokens.now (length w.text.now) n c.args.at) ∙ ap (λ j. (conditionsAt n l j).value) (sym c.min.ensures) ∙ conditions-list l n i in
-    let k = ap conditionsWeight e ∙ sum_by-cons conditionWeight (conditionAt n l i).value (Stretching.conditions n l n (conditionAt n l i).next) in record {
+    let e = sym (clamped w.tokens.now (length w.text.now) n c.args.at) ∙ ap (λ j. (conditions_at n l j).value) (sym c.min.ensures) ∙ conditions-list l n i in
+    let k = ap conditions_weight e ∙ sum_by-cons condition_weight (condition_at n l i).value (Stretching.conditions n l n (condition_at n l i).next) in record {
       fit = c.requires.fit;
       near = omega (arith, w.few, c.min.ensures);
       room = omega (arith, c.requires.items);
@@ -37,13 +37,13 @@ condition_at-first-requires c =
 pub loop-rest-init : goal.loop-rest-init
 loop-rest-init c =
     let w = c.args.sheet in let l = look_of (source_of w) in let n = length w.tokens.now in let i = c.min.result in let f = c.condition_at-first in
-    let e = sym (clamped w.tokens.now (length w.text.now) n c.args.at) ∙ ap (λ j. (conditionsAt n l j).value) (sym c.min.ensures) ∙ conditions-list l n i ∙ ap (λ j. (conditionAt n l i).value ∷ Stretching.conditions n l n j) (sym f.ensures.next) in
-    let k = ap conditionsWeight e ∙ sum_by-cons conditionWeight (conditionAt n l i).value (Stretching.conditions n l n f.result.next) in
+    let e = sym (clamped w.tokens.now (length w.text.now) n c.args.at) ∙ ap (λ j. (conditions_at n l j).value) (sym c.min.ensures) ∙ conditions-list l n i ∙ ap (λ j. (condition_at n l i).value ∷ Stretching.conditions n l n j) (sym f.ensures.next) in
+    let k = ap conditions_weight e ∙ sum_by-cons condition_weight (condition_at n l i).value (Stretching.conditions n l n f.result.next) in
     let same : (columns_of f.new.tables).conditions ≡ (columns_of c.args.tables.now).conditions = ap (λ (c : Columns). c.conditions) f.ensures.others.rest in
     let g = condition_taken (columns_of f.new.tables) (columns_of c.push_condition.new.self) f.result.condition c.push_condition.result c.push_condition.ensures.value (omega (arith, c.requires.conditions, ap (λ (d : Column Listed). length d.entries) same, ap (λ (d : Column Listed). d.room) same)) c.push_condition.ensures.held in
     let p = ap (λ (c : Columns). c.conditions.entries) g ∙ ap (λ (d : Column Listed). d.entries ++ f.result.condition ∷ []) same in
     let q = ap length p ∙ length_push (columns_of c.args.tables.now).conditions.entries f.result.condition in (
-      under_none (conditionOf w.text.now (scope_of w c.args.names.now [])) _ _ _,
+      under_none (condition_of w.text.now (scope_of w c.args.names.now [])) _ _ _,
       omega (arith, c.requires.conditions, ap (λ (c : Columns). c.conditions.room) g, ap (λ (d : Column Listed). d.room) same),
       omega (arith, c.requires.items, f.ensures.size, f.ensures.others.room, ap (λ (c : Columns). c.items.room) g, ap (λ (c : Columns). length c.items.entries) g),
       omega arith,
@@ -56,8 +56,8 @@ condition_at-one-requires c =
     let w = c.args.sheet in let l = look_of (source_of w) in let n = length w.tokens.now in
     let comma = sym (c.if-is.ensures ∙ ap (is_a Comma) c.token.ensures) in
     let s = comma-stands w.tokens.now (length w.text.now) c.loop-rest.next comma in
-    let left = rest_more l (is_a Comma) (λ (t : Token) (j : ℕ). conditionAt n l j) c.loop-rest.rest c.loop-rest.next c.loop-rest-test.true comma in
-    let k = ap conditionsWeight left ∙ sum_by-cons conditionWeight (conditionAt n l (c.loop-rest.next + 1)).value (Stretching.conditions n l (c.loop-rest.rest - 1) (conditionAt n l (c.loop-rest.next + 1)).next) in record {
+    let left = rest_more l (is_a Comma) (λ (t : Token) (j : ℕ). condition_at n l j) c.loop-rest.rest c.loop-rest.next c.loop-rest-test.true comma in
+    let k = ap conditions_weight left ∙ sum_by-cons condition_weight (condition_at n l (c.loop-rest.next + 1)).value (Stretching.conditions n l (c.loop-rest.rest - 1) (condition_at n l (c.loop-rest.next + 1)).next) in record {
       fit = c.requires.fit;
       near = omega (arith, w.few);
       room = omega (arith, c.loop-rest.invariant.2);
@@ -66,16 +66,16 @@ condition_at-one-requires c =
 pub loop-rest-preserved : goal.loop-rest-preserved
 loop-rest-preserved c =
     let w = c.args.sheet in let l = look_of (source_of w) in let n = length w.tokens.now in let f = c.condition_at-one in let i = c.loop-rest.invariant in let q = c.push_condition-in-loop-rest in
-    let F = conditionOf w.text.now (scope_of w c.args.names.now []) in
+    let F = condition_of w.text.now (scope_of w c.args.names.now []) in
     let comma = sym (c.if-is.ensures ∙ ap (is_a Comma) c.token.ensures) in
-    let left = rest_more l (is_a Comma) (λ (t : Token) (j : ℕ). conditionAt n l j) c.loop-rest.rest c.loop-rest.next c.loop-rest-test.true comma
-    ∙ ap (λ j. (conditionAt n l (c.loop-rest.next + 1)).value ∷ Stretching.conditions n l (c.loop-rest.rest - 1) j) (sym f.ensures.next) in
-    let k = ap conditionsWeight left ∙ sum_by-cons conditionWeight (conditionAt n l (c.loop-rest.next + 1)).value (Stretching.conditions n l (c.loop-rest.rest - 1) f.result.next) in
+    let left = rest_more l (is_a Comma) (λ (t : Token) (j : ℕ). condition_at n l j) c.loop-rest.rest c.loop-rest.next c.loop-rest-test.true comma
+    ∙ ap (λ j. (condition_at n l (c.loop-rest.next + 1)).value ∷ Stretching.conditions n l (c.loop-rest.rest - 1) j) (sym f.ensures.next) in
+    let k = ap conditions_weight left ∙ sum_by-cons condition_weight (condition_at n l (c.loop-rest.next + 1)).value (Stretching.conditions n l (c.loop-rest.rest - 1) f.result.next) in
     let same : (columns_of f.new.tables).conditions ≡ (columns_of c.loop-rest.tables).conditions = ap (λ (c : Columns). c.conditions) f.ensures.others.rest in
     let g = condition_taken (columns_of f.new.tables) (columns_of q.new.self) f.result.condition q.result q.ensures.value (omega (arith, i.1, ap (λ (d : Column Listed). length d.entries) same, ap (λ (d : Column Listed). d.room) same)) q.ensures.held in
     let p = ap (λ (c : Columns). c.conditions.entries) g ∙ ap (λ (d : Column Listed). d.entries ++ f.result.condition ∷ []) same in
     let m = ap length p ∙ length_push (columns_of c.loop-rest.tables).conditions.entries f.result.condition in (
-      under-in F _ _ _ _ (under-turn F _ _ _ (conditionAt n l (c.loop-rest.next + 1)).value f.result.condition _ (columns_of c.loop-rest.tables).conditions.entries _ _ (columns_of c.loop-rest.tables).items.entries _ i.0 left f.ensures.formed p) refl (ap (λ (c : Columns). c.items.entries) g),
+      under-in F _ _ _ _ (under-turn F _ _ _ (condition_at n l (c.loop-rest.next + 1)).value f.result.condition _ (columns_of c.loop-rest.tables).conditions.entries _ _ (columns_of c.loop-rest.tables).items.entries _ i.0 left f.ensures.formed p) refl (ap (λ (c : Columns). c.items.entries) g),
       omega (arith, i.1, ap (λ (c : Columns). c.conditions.room) g, ap (λ (d : Column Listed). d.room) same),
       omega (arith, i.2, f.ensures.size, f.ensures.others.room, ap (λ (c : Columns). c.items.room) g, ap (λ (c : Columns). length c.items.entries) g),
       omega (arith, i.3, f.ensures.size, ap (λ (c : Columns). length c.items.entries) g),
@@ -86,17 +86,17 @@ loop-rest-preserved c =
 pub returns : goal.returns
 returns c =
     let w = c.args.sheet in let l = look_of (source_of w) in let n = length w.tokens.now in let i = c.min.result in let f = c.condition_at-first in let inv = c.loop-rest.invariant in
-    let F = conditionOf w.text.now (scope_of w c.args.names.now []) in
-    let e = sym (clamped w.tokens.now (length w.text.now) n c.args.at) ∙ ap (λ j. (conditionsAt n l j).value) (sym c.min.ensures) ∙ conditions-list l n i ∙ ap (λ j. (conditionAt n l i).value ∷ Stretching.conditions n l n j) (sym f.ensures.next) in
-    let k = ap conditionsWeight e ∙ sum_by-cons conditionWeight (conditionAt n l i).value (Stretching.conditions n l n f.result.next) in
+    let F = condition_of w.text.now (scope_of w c.args.names.now []) in
+    let e = sym (clamped w.tokens.now (length w.text.now) n c.args.at) ∙ ap (λ j. (conditions_at n l j).value) (sym c.min.ensures) ∙ conditions-list l n i ∙ ap (λ j. (condition_at n l i).value ∷ Stretching.conditions n l n j) (sym f.ensures.next) in
+    let k = ap conditions_weight e ∙ sum_by-cons condition_weight (condition_at n l i).value (Stretching.conditions n l n f.result.next) in
     let same : (columns_of f.new.tables).conditions ≡ (columns_of c.args.tables.now).conditions = ap (λ (c : Columns). c.conditions) f.ensures.others.rest in
     let g = condition_taken (columns_of f.new.tables) (columns_of c.push_condition.new.self) f.result.condition c.push_condition.result c.push_condition.ensures.value (omega (arith, c.requires.conditions, ap (λ (d : Column Listed). length d.entries) same, ap (λ (d : Column Listed). d.room) same)) c.push_condition.ensures.held in
     let p = ap (λ (c : Columns). c.conditions.entries) g ∙ ap (λ (d : Column Listed). d.entries ++ f.result.condition ∷ []) same in
     let none : Stretching.conditions n l c.loop-rest.rest c.loop-rest.next ≡ [] = elim c.loop-rest-test.branch [
-      | then-loop-rest-test+else-is v ↦ rest-none l (is_a Comma) (λ (t : Token) (j : ℕ). conditionAt n l j) c.loop-rest.rest c.loop-rest.next (sym (v.if-is.ensures ∙ ap (is_a Comma) v.token.ensures))
-      | else-loop-rest-test v ↦ rest_out l (is_a Comma) (λ (t : Token) (j : ℕ). conditionAt n l j) c.loop-rest.rest c.loop-rest.next (omega (arith, v.loop-rest-test.false))
+      | then-loop-rest-test+else-is v ↦ rest-none l (is_a Comma) (λ (t : Token) (j : ℕ). condition_at n l j) c.loop-rest.rest c.loop-rest.next (sym (v.if-is.ensures ∙ ap (is_a Comma) v.token.ensures))
+      | else-loop-rest-test v ↦ rest_out l (is_a Comma) (λ (t : Token) (j : ℕ). condition_at n l j) c.loop-rest.rest c.loop-rest.next (omega (arith, v.loop-rest-test.false))
     ] in record {
-      listing = under_all F _ _ _ (conditionAt n l i).value f.result.condition (columns_of c.args.tables.now).conditions.entries _ _ (columns_of c.args.tables.now).items.entries _ _ f.ensures.formed p (under-in F _ _ _ _ inv.0 (sym (ap (λ (c : Columns). c.items.entries) g)) refl) none e;
+      listing = under_all F _ _ _ (condition_at n l i).value f.result.condition (columns_of c.args.tables.now).conditions.entries _ _ (columns_of c.args.tables.now).items.entries _ _ f.ensures.formed p (under-in F _ _ _ _ inv.0 (sym (ap (λ (c : Columns). c.items.entries) g)) refl) none e;
       stretch = (c.conditions-from.ensures, c.conditions.ensures);
       size = omega (arith, f.ensures.size, inv.3, ap (λ (c : Columns). length c.items.entries) g);
       others = conditions_then (conditions_then (items_alone f.ensures.others) (condition_alone (columns_of f.new.tables) (columns_of c.push_condition.new.self) f.result.condition g)) inv.4;

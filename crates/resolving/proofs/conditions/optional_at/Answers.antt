@@ -1,13 +1,13 @@
 use Rattle.std.proofs.Common.{◌≡◌, suc, ◌+◌, cond, [], length, sym, ap, ◌∙◌, subst, arith}
 use Rattle.grammar.specs.Parsers.{is_a}
-use Rattle.grammar.specs.Stretches.{conditionsAt, optionalAt}
+use Rattle.grammar.specs.Stretches.{conditions_at, optional_at}
 use Rattle.grammar.specs.Trees.{look_of}
-use Rattle.syntax.specs.Weights.{conditionsWeight}
+use Rattle.syntax.specs.Weights.{conditions_weight}
 use Rattle.records.specs.Laying.{columns_of}
 use Rattle.naming.specs.Reaches.{scope_of}
 use Rattle.naming.specs.Sources.{source_of}
 use Rattle.naming.proofs.Begins.{stands}
-use Rattle.resolving.specs.Resolving.{conditionsOf}
+use Rattle.resolving.specs.Resolving.{conditions_of}
 use Rattle.resolving.specs.Making.{Listing}
 use Rattle.resolving.proofs.Listings.{listing_none}
 use Rattle.resolving.proofs.Alone.{conditions_none}
@@ -21,9 +21,9 @@ overflow_add-at c =
 pub conditions_at-requires : goal.conditions_at-requires
 conditions_at-requires c =
     let w = c.args.sheet in let l = look_of (source_of w) in let n = length w.tokens.now in
-    let e : (conditionsAt n l (c.args.at + 1)).value ≡ optionalAt n l c.args.keyword c.args.at =
-    ap (λ j. (conditionsAt n l j).value) (let s : c.args.at + 1 ≡ suc c.args.at = omega arith in s) ∙ ap (λ b. cond b (conditionsAt n l (suc c.args.at)).value []) (c.if-is.ensures ∙ ap (is_a c.args.keyword) c.token.ensures) in
-    let k = ap conditionsWeight e in record {
+    let e : (conditions_at n l (c.args.at + 1)).value ≡ optional_at n l c.args.keyword c.args.at =
+    ap (λ j. (conditions_at n l j).value) (let s : c.args.at + 1 ≡ suc c.args.at = omega arith in s) ∙ ap (λ b. cond b (conditions_at n l (suc c.args.at)).value []) (c.if-is.ensures ∙ ap (is_a c.args.keyword) c.token.ensures) in
+    let k = ap conditions_weight e in record {
       fit = c.requires.fit;
       conditions = omega (arith, c.requires.conditions);
       items = omega (arith, c.requires.items);
@@ -32,10 +32,10 @@ conditions_at-requires c =
 pub returns-then-is : goal.returns-then-is
 returns-then-is c =
     let w = c.args.sheet in let l = look_of (source_of w) in let n = length w.tokens.now in
-    let e : (conditionsAt n l (c.args.at + 1)).value ≡ optionalAt n l c.args.keyword c.args.at =
-    ap (λ j. (conditionsAt n l j).value) (let s : c.args.at + 1 ≡ suc c.args.at = omega arith in s) ∙ ap (λ b. cond b (conditionsAt n l (suc c.args.at)).value []) (c.if-is.ensures ∙ ap (is_a c.args.keyword) c.token.ensures) in
-    let k = ap conditionsWeight e in let f = c.conditions_at in record {
-      listing = subst (λ xs. Listing (conditionsOf w.text.now (scope_of w c.args.names.now []) xs) (columns_of c.args.tables.now).conditions.entries (columns_of f.new.tables).conditions.entries (columns_of c.args.tables.now).items.entries (columns_of f.new.tables).items.entries) e f.ensures.listing;
+    let e : (conditions_at n l (c.args.at + 1)).value ≡ optional_at n l c.args.keyword c.args.at =
+    ap (λ j. (conditions_at n l j).value) (let s : c.args.at + 1 ≡ suc c.args.at = omega arith in s) ∙ ap (λ b. cond b (conditions_at n l (suc c.args.at)).value []) (c.if-is.ensures ∙ ap (is_a c.args.keyword) c.token.ensures) in
+    let k = ap conditions_weight e in let f = c.conditions_at in record {
+      listing = subst (λ xs. Listing (conditions_of w.text.now (scope_of w c.args.names.now []) xs) (columns_of c.args.tables.now).conditions.entries (columns_of f.new.tables).conditions.entries (columns_of c.args.tables.now).items.entries (columns_of f.new.tables).items.entries) e f.ensures.listing;
       stretch = f.ensures.stretch;
       size = omega (arith, f.ensures.size);
       others = f.ensures.others;
@@ -44,8 +44,8 @@ returns-then-is c =
 pub returns-else-is : goal.returns-else-is
 returns-else-is c =
     let w = c.args.sheet in let l = look_of (source_of w) in let n = length w.tokens.now in
-    let e : [] ≡ optionalAt n l c.args.keyword c.args.at = ap (λ b. cond b (conditionsAt n l (suc c.args.at)).value []) (c.if-is.ensures ∙ ap (is_a c.args.keyword) c.token.ensures) in record {
-      listing = subst (λ xs. Listing (conditionsOf w.text.now (scope_of w c.args.names.now []) xs) (columns_of c.args.tables.now).conditions.entries (columns_of c.args.tables.now).conditions.entries (columns_of c.args.tables.now).items.entries (columns_of c.args.tables.now).items.entries) e (listing_none _ _);
+    let e : [] ≡ optional_at n l c.args.keyword c.args.at = ap (λ b. cond b (conditions_at n l (suc c.args.at)).value []) (c.if-is.ensures ∙ ap (is_a c.args.keyword) c.token.ensures) in record {
+      listing = subst (λ xs. Listing (conditions_of w.text.now (scope_of w c.args.names.now []) xs) (columns_of c.args.tables.now).conditions.entries (columns_of c.args.tables.now).conditions.entries (columns_of c.args.tables.now).items.entries (columns_of c.args.tables.now).items.entries) e (listing_none _ _);
       stretch = (c.conditions-here.ensures, c.conditions-here.ensures);
       size = omega arith;
       others = conditions_none;

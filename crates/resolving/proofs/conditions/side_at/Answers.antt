@@ -3,13 +3,13 @@ use Rattle.std.proofs.lemmas.List.{length_push}
 use Rattle.letters.specs.declared.kind.Kind.TheVariants.{Minus}
 use Rattle.letters.specs.declared.token.Token.{Token}
 use Rattle.grammar.specs.Parsers.{is_a}
-use Rattle.grammar.specs.Sheets.{sumSign}
+use Rattle.grammar.specs.Sheets.{sum_sign}
 use Rattle.grammar.specs.Stretches.{item_at}
 use Rattle.grammar.specs.Trees.{look_of}
 use Rattle.records.specs.Laying.{columns_of}
 use Rattle.naming.specs.Reaches.{scope_of}
 use Rattle.naming.specs.Sources.{source_of}
-use Rattle.naming.specs.Stretching.{items, itemsEnd}
+use Rattle.naming.specs.Stretching.{items, items_end}
 use Rattle.naming.proofs.Joins.{rest-none, rest_out}
 use Rattle.naming.proofs.Turns.{side-list, side-end, end_more, end_none, end-out, sign-stands}
 use Rattle.records.specs.Tables as lists
@@ -48,7 +48,7 @@ loop-rest-preserved c =
     let R = item_of w.text.now (scope_of w c.args.names.now []) in let one = λ (t : Token) (j : ℕ). item_at l (is_a Minus t) j in
     let is_m : c.is-minus.result ≡ m = c.is-minus.ensures ∙ ap (is_a Minus) c.token.ensures in
     let s = sign-stands w.tokens.now (length w.text.now) c.loop-rest.next (sym c.if-is_sign.ensures) in
-    let more = rest_more l sumSign one c.loop-rest.rest c.loop-rest.next c.loop-rest-test.true (sym c.if-is_sign.ensures) in
+    let more = rest_more l sum_sign one c.loop-rest.rest c.loop-rest.next c.loop-rest-test.true (sym c.if-is_sign.ensures) in
     let next : f.result.next ≡ (item_at l m (c.loop-rest.next + 1)).next = f.ensures.next ∙ ap (λ b. (item_at l b (c.loop-rest.next + 1)).next) is_m in
     let left = more ∙ ap (λ j. (item_at l m (c.loop-rest.next + 1)).value ∷ items l (c.loop-rest.rest - 1) j) (sym next) in
     let q = c.push_item-in-loop-rest in
@@ -58,7 +58,7 @@ loop-rest-preserved c =
       turn lists.item_of _ _ (columns_of c.push_item.new.self).items.entries (columns_of c.loop-rest.tables).items.entries _ f.result.item (R (item_at l m (c.loop-rest.next + 1)).value) _ i.0 (ap (map R) left) (f.ensures.item ∙ ap (λ b. R (item_at l b (c.loop-rest.next + 1)).value) is_m) p,
       omega (arith, ap length left, i.1, ap (λ (c : Columns). c.items.room) g),
       items_then i.2 (item_alone (columns_of c.loop-rest.tables) (columns_of q.new.self) f.result.item g),
-      i.3 ∙ end_more l sumSign one c.loop-rest.rest c.loop-rest.next c.loop-rest-test.true (sym c.if-is_sign.ensures) ∙ ap (itemsEnd l (c.loop-rest.rest - 1)) (sym next),
+      i.3 ∙ end_more l sum_sign one c.loop-rest.rest c.loop-rest.next c.loop-rest-test.true (sym c.if-is_sign.ensures) ∙ ap (items_end l (c.loop-rest.rest - 1)) (sym next),
       omega (arith, f.ensures.near, w.few),
     )
 
@@ -72,10 +72,10 @@ returns-else-is_sign c =
     let p = ap (λ (c : Columns). c.items.entries) g in
     let one = λ (t : Token) (j : ℕ). item_at l (is_a Minus t) j in record {
       added = onto lists.item_of (R (item_at l false c.args.at).value) _ _ (columns_of c.args.tables.now).items.entries _ _ f.result.item f.ensures.item p
-          (whole lists.item_of _ _ _ _ i.0 (ap (map R) (rest-none l sumSign one c.loop-rest.rest c.loop-rest.next (sym c.if-is_sign.ensures))))
+          (whole lists.item_of _ _ _ _ i.0 (ap (map R) (rest-none l sum_sign one c.loop-rest.rest c.loop-rest.next (sym c.if-is_sign.ensures))))
           (ap (map R) (side-list l n c.args.at ∙ ap (λ j. (item_at l false c.args.at).value ∷ items l n j) (sym f.ensures.next)));
       others = items_then (item_alone (columns_of c.args.tables.now) (columns_of c.push_item.new.self) f.result.item g) i.2;
-      next = sym (side-end l n c.args.at ∙ ap (itemsEnd l n) (sym f.ensures.next) ∙ i.3 ∙ end_none l sumSign one c.loop-rest.rest c.loop-rest.next (sym c.if-is_sign.ensures));
+      next = sym (side-end l n c.args.at ∙ ap (items_end l n) (sym f.ensures.next) ∙ i.3 ∙ end_none l sum_sign one c.loop-rest.rest c.loop-rest.next (sym c.if-is_sign.ensures));
       near = i.4;
     }
 
@@ -89,9 +89,9 @@ returns-after-loop-rest c =
     let p = ap (λ (c : Columns). c.items.entries) g in
     let one = λ (t : Token) (j : ℕ). item_at l (is_a Minus t) j in record {
       added = onto lists.item_of (R (item_at l false c.args.at).value) _ _ (columns_of c.args.tables.now).items.entries _ _ f.result.item f.ensures.item p
-          (whole lists.item_of _ _ _ _ i.0 (ap (map R) (rest_out l sumSign one c.loop-rest.rest c.loop-rest.next (omega arith))))
+          (whole lists.item_of _ _ _ _ i.0 (ap (map R) (rest_out l sum_sign one c.loop-rest.rest c.loop-rest.next (omega arith))))
           (ap (map R) (side-list l n c.args.at ∙ ap (λ j. (item_at l false c.args.at).value ∷ items l n j) (sym f.ensures.next)));
       others = items_then (item_alone (columns_of c.args.tables.now) (columns_of c.push_item.new.self) f.result.item g) i.2;
-      next = sym (side-end l n c.args.at ∙ ap (itemsEnd l n) (sym f.ensures.next) ∙ i.3 ∙ end-out l sumSign one c.loop-rest.rest c.loop-rest.next (omega arith));
+      next = sym (side-end l n c.args.at ∙ ap (items_end l n) (sym f.ensures.next) ∙ i.3 ∙ end-out l sum_sign one c.loop-rest.rest c.loop-rest.next (omega arith));
       near = i.4;
     }

@@ -1,7 +1,7 @@
 use Rattle.std.proofs.Common.{◌≡◌}
-use Rattle.grammar.specs.Trees.{rulesTo}
+use Rattle.grammar.specs.Trees.{rules_to}
 use Rattle.pile.specs.Entries.{room}
-use Rattle.naming.specs.Reaches.{sheetOf}
+use Rattle.naming.specs.Reaches.{sheet_of}
 use Rattle.naming.specs.Sources.{source_of}
 use Rattle.records.specs.Laying.{columns_of}
 use Rattle.resolving.specs.Ruling.{RulesMade, SameRooms}
@@ -9,6 +9,6 @@ use Rattle.resolving.proofs.rules.all_rules.Given as goal
 
 abbrev pub invariant-loop-at : goal.invariant-loop-at
 invariant-loop-at l =
-    RulesMade (sheetOf l.sheet) (rulesTo (source_of l.sheet) l.at l.sheet.nodes.now) (columns_of l.tables)
+    RulesMade (sheet_of l.sheet) (rules_to (source_of l.sheet) l.at l.sheet.nodes.now) (columns_of l.tables)
     × SameRooms (columns_of l.initial.tables) (columns_of l.tables)
     × (room l.names ≡ room l.initial.names) × (room l.lists ≡ room l.initial.lists)

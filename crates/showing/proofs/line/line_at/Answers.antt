@@ -1,13 +1,13 @@
 use Rattle.std.proofs.Common.{◌≡◌, min, length, take, arith}
 use Rattle.std.proofs.lemmas.List.Sums.{count_by-le-length}
 use Rattle.std.proofs.lemmas.List.{length-take}
-use Rattle.showing.specs.Lines.{isFeed}
+use Rattle.showing.specs.Lines.{is_feed}
 use Rattle.showing.proofs.Lining.{stands-so, feed-within}
 use Rattle.showing.proofs.line.line_at.Goals as goal
 
 pub overflow_add-result : goal.overflow_add-result
 overflow_add-result c =
-    let a = count_by-le-length isFeed (take c.min-place.result c.args.text.now) in
+    let a = count_by-le-length is_feed (take c.min-place.result c.args.text.now) in
     let b = length-take c.min-place.result c.args.text.now in
     omega arith
 

@@ -1,7 +1,7 @@
 use Rattle.std.proofs.Common.{◌+◌, List, take, sym, subst, arith}
 use Rattle.letters.specs.declared.token.Token.{Token}
 use Rattle.letters.proofs.Running.{run-passes}
-use Rattle.grammar.specs.Parsers.{lookIn}
+use Rattle.grammar.specs.Parsers.{look_in}
 use Rattle.showing.specs.Kinds.{among}
 use Rattle.showing.specs.Probes.{elsewhere, Apart, probed, Tells}
 use Rattle.showing.proofs.Probing.{fronted}
@@ -22,5 +22,5 @@ pub returns : goal.returns
 returns c k =
     let e = fronted c.args.tokens.now _ c.copy_front.new.scratch c.number_at-at.result c.number_at-at.ensures.within c.copy_front.ensures in
     let w = c.args.place in
-    subst (λ n. Tells (among c.each_kind.result k) (lookIn (probed (take n c.args.tokens.now) w k) (w + 1)) n) c.number_at-at.ensures.told
-    (subst (λ (ts : List Token). Tells (among c.each_kind.result k) (lookIn (probed ts w k) (w + 1)) c.number_at-at.result) e (c.each_kind.ensures k))
+    subst (λ n. Tells (among c.each_kind.result k) (look_in (probed (take n c.args.tokens.now) w k) (w + 1)) n) c.number_at-at.ensures.told
+    (subst (λ (ts : List Token). Tells (among c.each_kind.result k) (look_in (probed ts w k) (w + 1)) c.number_at-at.result) e (c.each_kind.ensures k))

@@ -1,6 +1,6 @@
 use Rattle.std.proofs.Common.{◌≡◌, true, List, ℤ, pos, Some, sym, ap, ◌∙◌, ap₂, w32, w64, SFits, rules}
 use Rattle.std.proofs.lemmas.Int.{to_z-of_z}
-use Rattle.terms.specs.Narrow.{within, termOf}
+use Rattle.terms.specs.Narrow.{within, term_of}
 use Rattle.terms.proofs.Holding.{kept-none, kept-some}
 use Rattle.terms.proofs.Limiting.{limited-large, limited-kept}
 use Rattle.terms.proofs.working.limited.Goals as goal
@@ -17,4 +17,4 @@ returns c =
     let l = kept-some _ _ _ c.in_ok-coefs.ensures in
     let e = to_z-of_z w32 c.in_ok-constant.constant fit ∙ k.1 ∙ same in
     let w : within (pos 1000000) z ≡ true = ap (within (pos 1000000)) (sym same) ∙ k.0 in
-    ap₂ (λ (x : ℤ) (xs : List ℤ). Some (termOf x xs)) e l.1 ∙ limited-kept z c.args.coefs.now w l.0
+    ap₂ (λ (x : ℤ) (xs : List ℤ). Some (term_of x xs)) e l.1 ∙ limited-kept z c.args.coefs.now w l.0

@@ -1,7 +1,7 @@
 use Rattle.std.proofs.Common.{List, ℤ, ◌*ℤ◌, ap, ◌∙◌, ap₂, w32, w64, rules}
 use Rattle.std.proofs.lemmas.Int.{to_z-of_z}
-use Rattle.language.specs.Terms.{each, coefOf, limited, scaled}
-use Rattle.terms.specs.Narrow.{termOf}
+use Rattle.language.specs.Terms.{each, coef_of, limited, scaled}
+use Rattle.terms.specs.Narrow.{term_of}
 use Rattle.terms.proofs.working.scaled.Goals as goal
 
 pub returns : goal.returns
@@ -10,5 +10,5 @@ returns c =
     let t = c.args.t.now in
     let k = to_z-of_z w32 c.args.k c.ranges.k in
     let z = to_z-of_z w64 c.product.result (search rules) ∙ c.product.ensures ∙ ap₂ ◌*ℤ◌ k (to_z-of_z w32 t.constant (search rules)) in
-    let zs = c.products.ensures ∙ ap (λ (x : ℤ). each (λ j. x *ℤ coefOf t j)) k in
-    c.limited.ensures ∙ ap₂ (λ (x : ℤ) (xs : List ℤ). limited (termOf x xs)) z zs
+    let zs = c.products.ensures ∙ ap (λ (x : ℤ). each (λ j. x *ℤ coef_of t j)) k in
+    c.limited.ensures ∙ ap₂ (λ (x : ℤ) (xs : List ℤ). limited (term_of x xs)) z zs

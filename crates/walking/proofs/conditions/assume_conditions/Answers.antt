@@ -2,13 +2,13 @@ use Rattle.std.proofs.Common.{◌≡◌, ◌+◌, get_or, Err, Ok, List, Result,
 use Rattle.std.proofs.lemmas.Result.{err_from_is_err_and}
 use Rattle.std.proofs.lemmas.Option.{slice_get-get_or}
 use Rattle.language.specs.declared.refusal.Refusal.{Refusal}
-use Rattle.language.specs.Comparing.{conditionRows}
+use Rattle.language.specs.Comparing.{condition_rows}
 use Rattle.language.specs.Tree as Tree
-use Rattle.language.specs.Walking.{Known, assume, assumeAll}
+use Rattle.language.specs.Walking.{Known, assume, assume_all}
 use Rattle.pile.specs.Entries.{entries}
 use Rattle.records.specs.Columns.{no_condition}
 use Rattle.records.specs.Laying.{columns_of}
-use Rattle.records.specs.Tables.{conditionIn, conditionsIn}
+use Rattle.records.specs.Tables.{condition_in, conditions_in}
 use Rattle.terms.specs.Listed.{list_of}
 use Rattle.walking.specs.Knowing.{Took, placed}
 use Rattle.walking.proofs.Taking.{Taking, taking_none, taking_turn, taking_break, taking-end, conditions-step, conditions-none}
@@ -17,19 +17,19 @@ use Rattle.walking.proofs.conditions.assume_conditions.Goals as goal
 pub loop-at-init : goal.loop-at-init
 loop-at-init c =
     let a = c.args in let p = columns_of a.tables.now in
-    (taking_none (placed a.place) a.names.now a.outcome.now (conditionsIn p.items.entries p.conditions.entries a.from a.to) (entries a.facts.now), refl)
+    (taking_none (placed a.place) a.names.now a.outcome.now (conditions_in p.items.entries p.conditions.entries a.from a.to) (entries a.facts.now), refl)
 
 pub returns-in_err-assume-clause-took : goal.returns-in_err-assume-clause-took
 returns-in_err-assume-clause-took c =
     let a = c.args in let p = columns_of a.tables.now in let ts = a.names.now in let r = a.outcome.now in let at = c.loop-at.at in let f = placed a.place in let e = c.in_err-assume in
     let given = err_from_is_err_and c.from_residual.result c.from_residual.ensures.1 in
     let is : c.from_residual.result ≡ Err e.field-0.0 = given.1 ∙ ap Err given.2 in
-    let d = conditionIn p.items.entries (get_or p.conditions.entries at no_condition) in
+    let d = condition_in p.items.entries (get_or p.conditions.entries at no_condition) in
     let s = slice_get-get_or p.conditions.entries at no_condition (omega (arith, c.loop-at-test.true, c.requires.within)) in
     let now = entries c.loop-at.facts in let after = entries c.assume.new.facts in
-    let k : assume c.place_of.result now (list_of c.condition_rows_at-rows.result) ≡ assume (f d) now (conditionRows ts r d) = ap₂ (λ n xs. assume n now xs) (c.place_of.ensures _ p.items.entries s) (c.condition_rows_at-rows.ensures _ s) in
-    let whole = assumeAll f ts r (entries a.facts.now) (conditionsIn p.items.entries p.conditions.entries a.from a.to) in
-    let rest = conditionsIn p.items.entries p.conditions.entries (at + 1) a.to in
+    let k : assume c.place_of.result now (list_of c.condition_rows_at-rows.result) ≡ assume (f d) now (condition_rows ts r d) = ap₂ (λ n xs. assume n now xs) (c.place_of.ensures _ p.items.entries s) (c.condition_rows_at-rows.ensures _ s) in
+    let whole = assume_all f ts r (entries a.facts.now) (conditions_in p.items.entries p.conditions.entries a.from a.to) in
+    let rest = conditions_in p.items.entries p.conditions.entries (at + 1) a.to in
     subst (λ (x : Result (Unit {0}) Refusal). Took x whole (entries a.facts.now) after) (sym is)
     (taking_break f ts r whole e.field-0.0 d rest (entries a.facts.now) now after
     (subst (λ (cs : List Tree.Condition). Taking f ts r whole cs (entries a.facts.now) now) (conditions-step p at a.to c.loop-at-test.true c.requires.within) c.loop-at.invariant.0)
@@ -38,12 +38,12 @@ returns-in_err-assume-clause-took c =
 pub loop-at-preserved : goal.loop-at-preserved
 loop-at-preserved c =
     let a = c.args in let p = columns_of a.tables.now in let ts = a.names.now in let r = a.outcome.now in let at = c.loop-at.at in let f = placed a.place in
-    let d = conditionIn p.items.entries (get_or p.conditions.entries at no_condition) in
+    let d = condition_in p.items.entries (get_or p.conditions.entries at no_condition) in
     let s = slice_get-get_or p.conditions.entries at no_condition (omega (arith, c.loop-at-test.true, c.requires.within)) in
     let now = entries c.loop-at.facts in let after = entries c.assume.new.facts in
-    let k : assume c.place_of.result now (list_of c.condition_rows_at-rows.result) ≡ assume (f d) now (conditionRows ts r d) = ap₂ (λ n xs. assume n now xs) (c.place_of.ensures _ p.items.entries s) (c.condition_rows_at-rows.ensures _ s) in
-    let whole = assumeAll f ts r (entries a.facts.now) (conditionsIn p.items.entries p.conditions.entries a.from a.to) in
-    let rest = conditionsIn p.items.entries p.conditions.entries (at + 1) a.to in (
+    let k : assume c.place_of.result now (list_of c.condition_rows_at-rows.result) ≡ assume (f d) now (condition_rows ts r d) = ap₂ (λ n xs. assume n now xs) (c.place_of.ensures _ p.items.entries s) (c.condition_rows_at-rows.ensures _ s) in
+    let whole = assume_all f ts r (entries a.facts.now) (conditions_in p.items.entries p.conditions.entries a.from a.to) in
+    let rest = conditions_in p.items.entries p.conditions.entries (at + 1) a.to in (
       taking_turn f ts r whole d rest (entries a.facts.now) now after
           (subst (λ (cs : List Tree.Condition). Taking f ts r whole cs (entries a.facts.now) now) (conditions-step p at a.to c.loop-at-test.true c.requires.within) c.loop-at.invariant.0)
           (subst (λ (x : Known). Took (Ok tt) x now after) k c.in_ok-assume.ensures.took),
@@ -53,6 +53,6 @@ loop-at-preserved c =
 pub returns-clause-took : goal.returns-clause-took
 returns-clause-took c =
     let a = c.args in let p = columns_of a.tables.now in let ts = a.names.now in let r = a.outcome.now in let f = placed a.place in
-    let whole = assumeAll f ts r (entries a.facts.now) (conditionsIn p.items.entries p.conditions.entries a.from a.to) in
+    let whole = assume_all f ts r (entries a.facts.now) (conditions_in p.items.entries p.conditions.entries a.from a.to) in
     taking-end f ts r whole (entries a.facts.now) (entries c.loop-at.facts)
     (subst (λ (cs : List Tree.Condition). Taking f ts r whole cs (entries a.facts.now) (entries c.loop-at.facts)) (conditions-none p c.loop-at.at a.to c.loop-at-test.false) c.loop-at.invariant.0)

@@ -1,6 +1,6 @@
 use Rattle.std.proofs.Common.{◌≡◌, ◌<◌, true, length, Option, sym, refl, ap, ◌∙◌, subst, arith}
 use Rattle.rows.specs.declared.row.Row.{Row}
-use Rattle.language.specs.Walking.{owe, firstFault}
+use Rattle.language.specs.Walking.{owe, first_fault}
 use Rattle.records.specs.Added.{PutIf, OnePut}
 use Rattle.walking.specs.Owing.{Pays}
 use Rattle.walking.proofs.Owings.{owe-none, owe-full, has_room, pays-one}
@@ -9,14 +9,14 @@ use Rattle.walking.proofs.owing.owe.Goals as goal
 pub returns-in_default : goal.returns-in_default
 returns-in_default c =
     let a = c.args in let t = a.tables.now in record {
-      fault = ap (λ (o : Option Row). firstFault (owe a.duty a.place a.work a.facts.now t.owed o).notes) c.in_default.is ∙ owe-none a.duty a.place a.work a.facts.now t.owed;
+      fault = ap (λ (o : Option Row). first_fault (owe a.duty a.place a.work a.facts.now t.owed o).notes) c.in_default.is ∙ owe-none a.duty a.place a.work a.facts.now t.owed;
       columns = refl;
     }
 
 pub returns-then-owed-ge-MOST_OWED : goal.returns-then-owed-ge-MOST_OWED
 returns-then-owed-ge-MOST_OWED c =
     let a = c.args in let t = a.tables.now in let e = c.owed.ensures in record {
-      fault = ap (λ (o : Option Row). firstFault (owe a.duty a.place a.work a.facts.now t.owed o).notes) c.in-Some.is ∙ owe-full a.duty a.place a.work a.facts.now t.owed c.in-Some.row (omega (arith, c.if-owed-ge-MOST_OWED.true));
+      fault = ap (λ (o : Option Row). first_fault (owe a.duty a.place a.work a.facts.now t.owed o).notes) c.in-Some.is ∙ owe-full a.duty a.place a.work a.facts.now t.owed c.in-Some.row (omega (arith, c.if-owed-ge-MOST_OWED.true));
       columns = refl;
     }
 

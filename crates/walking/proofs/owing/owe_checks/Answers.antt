@@ -4,7 +4,7 @@ use Rattle.rows.specs.declared.row.Row.{Row}
 use Rattle.language.specs.declared.owed.Duty.TheVariants.{Below, Above}
 use Rattle.language.specs.declared.refusal.Refusal.{Refusal}
 use Rattle.language.specs.declared.term.Term.{Term}
-use Rattle.language.specs.Terms.{zeroTerm}
+use Rattle.language.specs.Terms.{zero_term}
 use Rattle.language.specs.Comparing.{at_most}
 use Rattle.language.specs.Walking.{Owing, owe}
 use Rattle.walking.specs.Owing.{Pays, Paid, checks}
@@ -25,7 +25,7 @@ pub returns : goal.returns
 returns c =
     let a = c.args in let t = a.tables.now in let u = c.owe.new.tables in let two = c.owe-2 in let v = two.new.tables in let fs = a.facts.now in
     let first = c.at_most.ensures ∙ ap (λ (z : Term). at_most (pos 0) z a.index.now) c.constant.ensures in
-    let o = owe Below a.place a.work fs t.owed (at_most (pos 0) zeroTerm a.index.now) in
+    let o = owe Below a.place a.work fs t.owed (at_most (pos 0) zero_term a.index.now) in
     let one : Pays o t u = subst (λ (x : Option Row). Pays (owe Below a.place a.work fs t.owed x) t u) first c.in_ok-owe.ensures in
     subst (λ (o : Owing). Paid two.result o t v) (sym (both-checks a.place a.work fs t.owed a.index.now a.size.now))
     (paid-then two.result o (owe Above a.place a.work fs o.count (at_most (pos 1) a.index.now a.size.now)) t u v one

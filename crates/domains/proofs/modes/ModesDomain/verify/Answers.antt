@@ -1,13 +1,13 @@
 use Rattle.std.proofs.Common.{◌≡◌, ℕ, ◌<◌, ◌≤◌, true, false, ◌&&◌, eqb, length, Err, sym, ap, ◌∙◌, subst, arith}
 use Rattle.std.proofs.lemmas.Bool.{and_from}
-use Rattle.rows.specs.Questions.{wellShaped}
+use Rattle.rows.specs.Questions.{well_shaped}
 use Rattle.domains.specs.Modes.{width}
 use Rattle.domains.specs.Deciding.{modes-follow, modes-broken}
 use Rattle.domains.proofs.Trying.{count_same, too_wide, tried}
 use Rattle.domains.proofs.modes.ModesDomain.verify.Goals as goal
 use Rattle.domains.proofs.modes.ModesDomain.verify.Goals.{After-count}
 
-shaped : (c : After-count) → (wellShaped c.args.question.facts.now c.args.question.goal.now && eqb (length c.args.certificate.now) 0) ≡ true
+shaped : (c : After-count) → (well_shaped c.args.question.facts.now c.args.question.goal.now && eqb (length c.args.certificate.now) 0) ≡ true
 shaped c = and_from _ _ (sym c.well_shaped.ensures ∙ c.if-not-well_shaped.false) (sym c.is_empty.ensures ∙ c.if-not-is_empty.false)
 
 counted : (c : After-count) → c.count.result ≡ width c.args.question.facts.now c.args.question.goal.now

@@ -5,7 +5,7 @@ use Rattle.grammar.proofs.Laws.{lasts_on, bumped-lasts, nexts, on-yes, on-no, st
 use Rattle.grammar.proofs.Loops.{ran-start, turn_on, turn-err, turn_end}
 use Rattle.grammar.proofs.Makes.{same-token, keep-token, keep, keep-args, pushes, pushes-args, c-none}
 use Rattle.grammar.proofs.Rooms.{paid-up}
-use Rattle.grammar.proofs.Levels.{expr-by, sum_by, product-by, atom-by, args_by, sum-chained, product-chained, args-chained, keep-conditions}
+use Rattle.grammar.proofs.Levels.{expr-by, sum_by, product-by, atom-by, args_by-law, sum-chained, product-chained, args-chained, keep-conditions}
 use Rattle.grammar.proofs.parser.Parser.+args_argument_atom_binding_bracket_choice_expr_named_product_putting_sum.Goals as goal
 
 pub binding-returns-in_err-name : goal.binding-returns-in_err-name
@@ -222,10 +222,10 @@ pub args-argument-requires-in-loop-self : goal.args-argument-requires-in-loop-se
 args-argument-requires-in-loop-self t c = omega (arith, paid-up c.args.self.now, paid-up c.loop-self.self, c.bump-in-loop-self.ensures.bumped.count, c.bump-in-loop-self.ensures.bumped.at, c.loop-self.invariant.size, c.loop-self.invariant.ahead, c.bump-in-loop-self.ensures.bumped.size, c.in_ok-args.ensures.moved.size, c.in_ok-args.ensures.moved.ahead, c.push-none.ensures.size)
 
 pub args-returns-then-sees : goal.args-returns-then-sees
-args-returns-then-sees t c = record { went = args_by (then_ok (pushes-args c.push-none.ensures refl refl) (on-yes _ _ _ (sym c.if-sees.ensures.told) (seq-ok _ (nexts c.bump.ensures.token c.bump.ensures.bumped) (gives (keep-args (bumped-lasts c.bump.ensures.bumped) (c-none c.push-none.ensures)))))); paid = omega (arith, paid-up c.args.self.now, c.push-none.ensures.count, c.push-none.ensures.at, c.bump.ensures.bumped.count, c.bump.ensures.bumped.at); settled = omega (arith, paid-up c.args.self.now, c.push-none.ensures.count, c.push-none.ensures.at, c.bump.ensures.bumped.count, c.bump.ensures.bumped.at) }
+args-returns-then-sees t c = record { went = args_by-law (then_ok (pushes-args c.push-none.ensures refl refl) (on-yes _ _ _ (sym c.if-sees.ensures.told) (seq-ok _ (nexts c.bump.ensures.token c.bump.ensures.bumped) (gives (keep-args (bumped-lasts c.bump.ensures.bumped) (c-none c.push-none.ensures)))))); paid = omega (arith, paid-up c.args.self.now, c.push-none.ensures.count, c.push-none.ensures.at, c.bump.ensures.bumped.count, c.bump.ensures.bumped.at); settled = omega (arith, paid-up c.args.self.now, c.push-none.ensures.count, c.push-none.ensures.at, c.bump.ensures.bumped.count, c.bump.ensures.bumped.at) }
 
 pub args-returns-in_err-args : goal.args-returns-in_err-args
-args-returns-in_err-args t c = record { went = broke c.from_residual.ensures.1 (args_by (then_ok (pushes-args c.push-none.ensures refl refl) (on-no _ _ _ (sym c.if-sees.ensures.told) (seq-err _ (c.in_err-args.ensures.went _ (c-none c.push-none.ensures)))))); paid = omega (arith, paid-up c.args.self.now, c.push-none.ensures.count, c.push-none.ensures.at, c.in_err-args.ensures.paid); settled = not-ok _ _ _ c.from_residual.ensures.1 }
+args-returns-in_err-args t c = record { went = broke c.from_residual.ensures.1 (args_by-law (then_ok (pushes-args c.push-none.ensures refl refl) (on-no _ _ _ (sym c.if-sees.ensures.told) (seq-err _ (c.in_err-args.ensures.went _ (c-none c.push-none.ensures)))))); paid = omega (arith, paid-up c.args.self.now, c.push-none.ensures.count, c.push-none.ensures.at, c.in_err-args.ensures.paid); settled = not-ok _ _ _ c.from_residual.ensures.1 }
 
 pub args-loop-self-init : goal.args-loop-self-init
 args-loop-self-init t c = ran-start _ _ _ _ _ (omega arith)
@@ -237,13 +237,13 @@ pub args-loop-self-preserved : goal.args-loop-self-preserved
 args-loop-self-preserved t c = turn_on args-chained c.loop-self.invariant c.loop-self-test.ensures.told (nexts c.bump-in-loop-self.ensures.token c.bump-in-loop-self.ensures.bumped) (λ x h. c.in_ok-args-2.ensures.went x (keep-args (bumped-lasts c.bump-in-loop-self.ensures.bumped) h)) (omega (arith, paid-up c.args.self.now, c.loop-self.invariant.paid, c.bump-in-loop-self.ensures.bumped.count, c.bump-in-loop-self.ensures.bumped.at, c.in_ok-args-2.ensures.paid)) (omega (arith, c.loop-self.invariant.size, c.bump-in-loop-self.ensures.bumped.size, c.in_ok-args-2.ensures.moved.size)) (omega (arith, c.loop-self.invariant.ahead, c.bump-in-loop-self.ensures.bumped.at, c.in_ok-args-2.ensures.moved.ahead))
 
 pub args-returns-in_err-args-2 : goal.args-returns-in_err-args-2
-args-returns-in_err-args-2 t c = record { went = broke c.from_residual-in_err-args-2.ensures.1 (args_by (then_ok (pushes-args c.push-none.ensures refl refl) (on-no _ _ _ (sym c.if-sees.ensures.told) (seq-ok _ (c.in_ok-args.ensures.went _ (c-none c.push-none.ensures)) (seq-err _ (turn-err args-chained c.loop-self.invariant c.loop-self-test.ensures.told (nexts c.bump-in-loop-self.ensures.token c.bump-in-loop-self.ensures.bumped) (λ x h. c.in_err-args-2.ensures.went x (keep-args (bumped-lasts c.bump-in-loop-self.ensures.bumped) h)) _ (c.in_ok-args.ensures.went _ (c-none c.push-none.ensures)).told.rel)))))); paid = omega (arith, paid-up c.args.self.now, c.push-none.ensures.count, c.push-none.ensures.at, c.in_ok-args.ensures.paid, c.loop-self.invariant.paid, c.bump-in-loop-self.ensures.bumped.count, c.bump-in-loop-self.ensures.bumped.at, c.in_err-args-2.ensures.paid); settled = not-ok _ _ _ c.from_residual-in_err-args-2.ensures.1 }
+args-returns-in_err-args-2 t c = record { went = broke c.from_residual-in_err-args-2.ensures.1 (args_by-law (then_ok (pushes-args c.push-none.ensures refl refl) (on-no _ _ _ (sym c.if-sees.ensures.told) (seq-ok _ (c.in_ok-args.ensures.went _ (c-none c.push-none.ensures)) (seq-err _ (turn-err args-chained c.loop-self.invariant c.loop-self-test.ensures.told (nexts c.bump-in-loop-self.ensures.token c.bump-in-loop-self.ensures.bumped) (λ x h. c.in_err-args-2.ensures.went x (keep-args (bumped-lasts c.bump-in-loop-self.ensures.bumped) h)) _ (c.in_ok-args.ensures.went _ (c-none c.push-none.ensures)).told.rel)))))); paid = omega (arith, paid-up c.args.self.now, c.push-none.ensures.count, c.push-none.ensures.at, c.in_ok-args.ensures.paid, c.loop-self.invariant.paid, c.bump-in-loop-self.ensures.bumped.count, c.bump-in-loop-self.ensures.bumped.at, c.in_err-args-2.ensures.paid); settled = not-ok _ _ _ c.from_residual-in_err-args-2.ensures.1 }
 
 pub args-returns-in_err-take : goal.args-returns-in_err-take
-args-returns-in_err-take t c = record { went = broke c.from_residual-in_err-take.ensures.1 (args_by (then_ok (pushes-args c.push-none.ensures refl refl) (on-no _ _ _ (sym c.if-sees.ensures.told) (seq-ok _ (c.in_ok-args.ensures.went _ (c-none c.push-none.ensures)) (seq-ok _ (turn_end args-chained c.loop-self.invariant c.loop-self-test.ensures.told _ (c.in_ok-args.ensures.went _ (c-none c.push-none.ensures)).told.rel) (seq-err _ c.in_err-take.ensures.went)))))); paid = omega (arith, paid-up c.args.self.now, c.push-none.ensures.count, c.push-none.ensures.at, c.in_ok-args.ensures.paid, c.loop-self.invariant.paid, c.in_err-take.ensures.count, c.in_err-take.ensures.went.ahead); settled = not-ok _ _ _ c.from_residual-in_err-take.ensures.1 }
+args-returns-in_err-take t c = record { went = broke c.from_residual-in_err-take.ensures.1 (args_by-law (then_ok (pushes-args c.push-none.ensures refl refl) (on-no _ _ _ (sym c.if-sees.ensures.told) (seq-ok _ (c.in_ok-args.ensures.went _ (c-none c.push-none.ensures)) (seq-ok _ (turn_end args-chained c.loop-self.invariant c.loop-self-test.ensures.told _ (c.in_ok-args.ensures.went _ (c-none c.push-none.ensures)).told.rel) (seq-err _ c.in_err-take.ensures.went)))))); paid = omega (arith, paid-up c.args.self.now, c.push-none.ensures.count, c.push-none.ensures.at, c.in_ok-args.ensures.paid, c.loop-self.invariant.paid, c.in_err-take.ensures.count, c.in_err-take.ensures.went.ahead); settled = not-ok _ _ _ c.from_residual-in_err-take.ensures.1 }
 
 pub args-returns : goal.args-returns
-args-returns t c = record { went = args_by (then_ok (pushes-args c.push-none.ensures refl refl) (on-no _ _ _ (sym c.if-sees.ensures.told) (seq-ok _ (c.in_ok-args.ensures.went _ (c-none c.push-none.ensures)) (seq-ok _ (turn_end args-chained c.loop-self.invariant c.loop-self-test.ensures.told _ (c.in_ok-args.ensures.went _ (c-none c.push-none.ensures)).told.rel) (seq-ok _ c.in_ok-take.ensures.went (gives (keep-args c.in_ok-take.ensures.went.told.lasts (let w = turn_end args-chained c.loop-self.invariant c.loop-self-test.ensures.told _ (c.in_ok-args.ensures.went _ (c-none c.push-none.ensures)).told.rel in w.told.rel)))))))); paid = omega (arith, paid-up c.args.self.now, c.push-none.ensures.count, c.push-none.ensures.at, c.in_ok-args.ensures.paid, c.loop-self.invariant.paid, c.in_ok-take.ensures.count, c.in_ok-take.ensures.past); settled = omega (arith, paid-up c.args.self.now, c.push-none.ensures.count, c.push-none.ensures.at, c.in_ok-args.ensures.paid, c.loop-self.invariant.paid, c.in_ok-take.ensures.count, c.in_ok-take.ensures.past) }
+args-returns t c = record { went = args_by-law (then_ok (pushes-args c.push-none.ensures refl refl) (on-no _ _ _ (sym c.if-sees.ensures.told) (seq-ok _ (c.in_ok-args.ensures.went _ (c-none c.push-none.ensures)) (seq-ok _ (turn_end args-chained c.loop-self.invariant c.loop-self-test.ensures.told _ (c.in_ok-args.ensures.went _ (c-none c.push-none.ensures)).told.rel) (seq-ok _ c.in_ok-take.ensures.went (gives (keep-args c.in_ok-take.ensures.went.told.lasts (let w = turn_end args-chained c.loop-self.invariant c.loop-self-test.ensures.told _ (c.in_ok-args.ensures.went _ (c-none c.push-none.ensures)).told.rel in w.told.rel)))))))); paid = omega (arith, paid-up c.args.self.now, c.push-none.ensures.count, c.push-none.ensures.at, c.in_ok-args.ensures.paid, c.loop-self.invariant.paid, c.in_ok-take.ensures.count, c.in_ok-take.ensures.past); settled = omega (arith, paid-up c.args.self.now, c.push-none.ensures.count, c.push-none.ensures.at, c.in_ok-args.ensures.paid, c.loop-self.invariant.paid, c.in_ok-take.ensures.count, c.in_ok-take.ensures.past) }
 
 pub argument-push-requires : goal.argument-push-requires
 argument-push-requires t c = omega (arith, paid-up c.args.self.now, c.requires, c.in_ok-arg.ensures.paid)

@@ -1,6 +1,6 @@
 use Rattle.std.proofs.Common.{true, false, [], ◌∷◌, arith}
 use Rattle.letters.specs.declared.kind.Kind.TheVariants.{Needs, Gives}
-use Rattle.grammar.specs.Sheets.{ruleOf}
+use Rattle.grammar.specs.Sheets.{rule_of}
 use Rattle.grammar.proofs.Laws.{lasts_on, gives, seq-ok, seq-err, broke}
 use Rattle.grammar.proofs.Makes.{same-token, keep-token, keep}
 use Rattle.grammar.proofs.Rooms.{paid-up}
@@ -32,4 +32,4 @@ pub returns-in_err-take-3 : goal.returns-in_err-take-3
 returns-in_err-take-3 c = record { went = broke c.from_residual-in_err-take-3.ensures.1 (seq-ok _ c.in_ok-name.ensures.went (seq-ok _ c.in_ok-take.ensures.went (seq-ok _ c.in_ok-params.ensures.went (seq-ok _ c.in_ok-optional.ensures.went (seq-ok _ c.in_ok-optional-2.ensures.went (seq-ok _ c.in_ok-take-2.ensures.went (seq-ok _ c.in_ok-body.ensures.went (seq-err _ c.in_err-take-3.ensures.went)))))))); paid = omega (arith, paid-up c.args.self.now, c.in_ok-name.ensures.count, c.in_ok-name.ensures.went.ahead, c.in_ok-take.ensures.count, c.in_ok-take.ensures.went.ahead, c.in_ok-params.ensures.count, c.in_ok-params.ensures.went.ahead, c.in_ok-optional.ensures.count, c.in_ok-optional.ensures.went.ahead, c.in_ok-optional-2.ensures.count, c.in_ok-optional-2.ensures.went.ahead, c.in_ok-take-2.ensures.count, c.in_ok-take-2.ensures.went.ahead, c.in_ok-body.ensures.paid, c.in_err-take-3.ensures.count, c.in_err-take-3.ensures.went.ahead) }
 
 pub returns : goal.returns
-returns c = record { went = seq-ok _ c.in_ok-name.ensures.went (seq-ok _ c.in_ok-take.ensures.went (seq-ok _ c.in_ok-params.ensures.went (seq-ok _ c.in_ok-optional.ensures.went (seq-ok _ c.in_ok-optional-2.ensures.went (seq-ok _ c.in_ok-take-2.ensures.went (seq-ok _ c.in_ok-body.ensures.went (seq-ok _ c.in_ok-take-3.ensures.went (gives (λ i. ruleOf ((same-token (lasts_on c.in_ok-name.ensures.went.told.lasts (lasts_on c.in_ok-take.ensures.went.told.lasts (lasts_on c.in_ok-params.ensures.went.told.lasts (lasts_on c.in_ok-optional.ensures.went.told.lasts (lasts_on c.in_ok-optional-2.ensures.went.told.lasts (lasts_on c.in_ok-take-2.ensures.went.told.lasts (lasts_on c.in_ok-body.ensures.went.told.lasts c.in_ok-take-3.ensures.went.told.lasts))))))) c.args.token) i) ((keep-token (lasts_on c.in_ok-take.ensures.went.told.lasts (lasts_on c.in_ok-params.ensures.went.told.lasts (lasts_on c.in_ok-optional.ensures.went.told.lasts (lasts_on c.in_ok-optional-2.ensures.went.told.lasts (lasts_on c.in_ok-take-2.ensures.went.told.lasts (lasts_on c.in_ok-body.ensures.went.told.lasts c.in_ok-take-3.ensures.went.told.lasts)))))) c.in_ok-name.ensures.went.told.rel).reads i) ((keep-params (lasts_on c.in_ok-params.ensures.went.told.lasts (lasts_on c.in_ok-optional.ensures.went.told.lasts (lasts_on c.in_ok-optional-2.ensures.went.told.lasts (lasts_on c.in_ok-take-2.ensures.went.told.lasts (lasts_on c.in_ok-body.ensures.went.told.lasts c.in_ok-take-3.ensures.went.told.lasts))))) _ c.in_ok-params.ensures.went.told.came) i) ((keep-optional (lasts_on c.in_ok-optional.ensures.went.told.lasts (lasts_on c.in_ok-optional-2.ensures.went.told.lasts (lasts_on c.in_ok-take-2.ensures.went.told.lasts (lasts_on c.in_ok-body.ensures.went.told.lasts c.in_ok-take-3.ensures.went.told.lasts)))) Needs false _ c.in_ok-optional.ensures.went.told.came) i) ((keep-optional (lasts_on c.in_ok-optional-2.ensures.went.told.lasts (lasts_on c.in_ok-take-2.ensures.went.told.lasts (lasts_on c.in_ok-body.ensures.went.told.lasts c.in_ok-take-3.ensures.went.told.lasts))) Gives true _ c.in_ok-optional-2.ensures.went.told.came) i) ((keep c.in_ok-take-3.ensures.went.told.lasts c.in_ok-body.ensures.went.told.rel).reads i) ∷ []))))))))); paid = omega (arith, paid-up c.args.self.now, c.in_ok-name.ensures.count, c.in_ok-name.ensures.went.ahead, c.in_ok-take.ensures.count, c.in_ok-take.ensures.went.ahead, c.in_ok-params.ensures.count, c.in_ok-params.ensures.went.ahead, c.in_ok-optional.ensures.count, c.in_ok-optional.ensures.went.ahead, c.in_ok-optional-2.ensures.count, c.in_ok-optional-2.ensures.went.ahead, c.in_ok-take-2.ensures.count, c.in_ok-take-2.ensures.went.ahead, c.in_ok-body.ensures.paid, c.in_ok-take-3.ensures.count, c.in_ok-take-3.ensures.went.ahead) }
+returns c = record { went = seq-ok _ c.in_ok-name.ensures.went (seq-ok _ c.in_ok-take.ensures.went (seq-ok _ c.in_ok-params.ensures.went (seq-ok _ c.in_ok-optional.ensures.went (seq-ok _ c.in_ok-optional-2.ensures.went (seq-ok _ c.in_ok-take-2.ensures.went (seq-ok _ c.in_ok-body.ensures.went (seq-ok _ c.in_ok-take-3.ensures.went (gives (λ i. rule_of ((same-token (lasts_on c.in_ok-name.ensures.went.told.lasts (lasts_on c.in_ok-take.ensures.went.told.lasts (lasts_on c.in_ok-params.ensures.went.told.lasts (lasts_on c.in_ok-optional.ensures.went.told.lasts (lasts_on c.in_ok-optional-2.ensures.went.told.lasts (lasts_on c.in_ok-take-2.ensures.went.told.lasts (lasts_on c.in_ok-body.ensures.went.told.lasts c.in_ok-take-3.ensures.went.told.lasts))))))) c.args.token) i) ((keep-token (lasts_on c.in_ok-take.ensures.went.told.lasts (lasts_on c.in_ok-params.ensures.went.told.lasts (lasts_on c.in_ok-optional.ensures.went.told.lasts (lasts_on c.in_ok-optional-2.ensures.went.told.lasts (lasts_on c.in_ok-take-2.ensures.went.told.lasts (lasts_on c.in_ok-body.ensures.went.told.lasts c.in_ok-take-3.ensures.went.told.lasts)))))) c.in_ok-name.ensures.went.told.rel).reads i) ((keep-params (lasts_on c.in_ok-params.ensures.went.told.lasts (lasts_on c.in_ok-optional.ensures.went.told.lasts (lasts_on c.in_ok-optional-2.ensures.went.told.lasts (lasts_on c.in_ok-take-2.ensures.went.told.lasts (lasts_on c.in_ok-body.ensures.went.told.lasts c.in_ok-take-3.ensures.went.told.lasts))))) _ c.in_ok-params.ensures.went.told.came) i) ((keep-optional (lasts_on c.in_ok-optional.ensures.went.told.lasts (lasts_on c.in_ok-optional-2.ensures.went.told.lasts (lasts_on c.in_ok-take-2.ensures.went.told.lasts (lasts_on c.in_ok-body.ensures.went.told.lasts c.in_ok-take-3.ensures.went.told.lasts)))) Needs false _ c.in_ok-optional.ensures.went.told.came) i) ((keep-optional (lasts_on c.in_ok-optional-2.ensures.went.told.lasts (lasts_on c.in_ok-take-2.ensures.went.told.lasts (lasts_on c.in_ok-body.ensures.went.told.lasts c.in_ok-take-3.ensures.went.told.lasts))) Gives true _ c.in_ok-optional-2.ensures.went.told.came) i) ((keep c.in_ok-take-3.ensures.went.told.lasts c.in_ok-body.ensures.went.told.rel).reads i) ∷ []))))))))); paid = omega (arith, paid-up c.args.self.now, c.in_ok-name.ensures.count, c.in_ok-name.ensures.went.ahead, c.in_ok-take.ensures.count, c.in_ok-take.ensures.went.ahead, c.in_ok-params.ensures.count, c.in_ok-params.ensures.went.ahead, c.in_ok-optional.ensures.count, c.in_ok-optional.ensures.went.ahead, c.in_ok-optional-2.ensures.count, c.in_ok-optional-2.ensures.went.ahead, c.in_ok-take-2.ensures.count, c.in_ok-take-2.ensures.went.ahead, c.in_ok-body.ensures.paid, c.in_ok-take-3.ensures.count, c.in_ok-take-3.ensures.went.ahead) }

@@ -3,14 +3,14 @@ use Rattle.std.proofs.lemmas.Result.{err_from_is_err_and}
 use Rattle.grammar.specs.declared.node.Node.{Node}
 use Rattle.grammar.specs.Held.{held}
 use Rattle.grammar.specs.Parsed.{RuledSo}
-use Rattle.grammar.specs.Trees.{rulesTo}
+use Rattle.grammar.specs.Trees.{rules_to}
 use Rattle.grammar.proofs.Rooms.{paid-up}
 use Rattle.grammar.proofs.Ruling.{ruling-start, ruled-on, ruled-err, ruled-end, ruled-not}
 use Rattle.grammar.proofs.parser.Parser.rules.Goals as goal
 
 pub loop-self-init : goal.loop-self-init
-unfolding rulesTo
-loop-self-init c = ruling-start _ (ap (λ (ns : List Node). rulesTo (held c.args.self.now).source (length ns) ns) c.requires)
+unfolding rules_to
+loop-self-init c = ruling-start _ (ap (λ (ns : List Node). rules_to (held c.args.self.now).source (length ns) ns) c.requires)
 
 pub loop-self-smaller : goal.loop-self-smaller
 loop-self-smaller c = omega (arith, c.bump-token.ensures.bumped.size, c.bump-token.ensures.bumped.at, c.bump-token.ensures.bumped.inside, c.in_ok-rule.ensures.went.size, c.in_ok-rule.ensures.went.ahead, c.push.ensures.size, c.push.ensures.at)

@@ -1,5 +1,5 @@
 use Rattle.std.proofs.Common.{false, refl, arith, rules}
-use Rattle.grammar.specs.Sheets.{sumSign, itemOn}
+use Rattle.grammar.specs.Sheets.{sum_sign, item_on}
 use Rattle.grammar.proofs.Laws.{nexts, gives, seq-ok, seq-err, broke}
 use Rattle.grammar.proofs.Loops.{ran-start, chain-chained, turn_on, turn-err, turn_end}
 use Rattle.grammar.proofs.parser.Parser.side.Goals as goal
@@ -14,10 +14,10 @@ pub loop-self-smaller : goal.loop-self-smaller
 loop-self-smaller c = let w = c.in_ok-item-2.ensures.went false in omega arith
 
 pub loop-self-preserved : goal.loop-self-preserved
-loop-self-preserved c = let w = c.in_ok-item-2.ensures.went false in turn_on (chain-chained sumSign (itemOn c.args.res)) c.loop-self.invariant c.loop-self-test.ensures.told (nexts c.bump.ensures.token c.bump.ensures.bumped) (λ x h. seq-ok _ (c.in_ok-item-2.ensures.went _) (gives tt)) (omega arith) (omega arith) (omega arith)
+loop-self-preserved c = let w = c.in_ok-item-2.ensures.went false in turn_on (chain-chained sum_sign (item_on c.args.res)) c.loop-self.invariant c.loop-self-test.ensures.told (nexts c.bump.ensures.token c.bump.ensures.bumped) (λ x h. seq-ok _ (c.in_ok-item-2.ensures.went _) (gives tt)) (omega arith) (omega arith) (omega arith)
 
 pub returns-in_err-item-2 : goal.returns-in_err-item-2
-returns-in_err-item-2 c = record { went = broke c.from_residual-in_err-item-2.ensures.1 (seq-ok _ (c.in_ok-item.ensures.went _) (turn-err (chain-chained sumSign (itemOn c.args.res)) c.loop-self.invariant c.loop-self-test.ensures.told (nexts c.bump.ensures.token c.bump.ensures.bumped) (λ x h. seq-err _ (c.in_err-item-2.ensures.went _)) _ tt)); count = search rules }
+returns-in_err-item-2 c = record { went = broke c.from_residual-in_err-item-2.ensures.1 (seq-ok _ (c.in_ok-item.ensures.went _) (turn-err (chain-chained sum_sign (item_on c.args.res)) c.loop-self.invariant c.loop-self-test.ensures.told (nexts c.bump.ensures.token c.bump.ensures.bumped) (λ x h. seq-err _ (c.in_err-item-2.ensures.went _)) _ tt)); count = search rules }
 
 pub returns : goal.returns
-returns c = record { went = seq-ok _ (c.in_ok-item.ensures.went _) (turn_end (chain-chained sumSign (itemOn c.args.res)) c.loop-self.invariant c.loop-self-test.ensures.told _ tt); count = search rules }
+returns c = record { went = seq-ok _ (c.in_ok-item.ensures.went _) (turn_end (chain-chained sum_sign (item_on c.args.res)) c.loop-self.invariant c.loop-self-test.ensures.told _ tt); count = search rules }

@@ -1,6 +1,6 @@
-use Rattle.letters.specs.Kinds.{sameKind}
+use Rattle.letters.specs.Kinds.{same_kind}
 use Rattle.letters.proofs.kind.Kind.is.Goals as goal
 
 pub returns : goal.returns
-unfolding sameKind
+unfolding same_kind
 returns c = cc

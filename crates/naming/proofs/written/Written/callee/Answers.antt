@@ -1,25 +1,25 @@
 use Rattle.std.proofs.Common.{◌≡◌, length, sym, ap, ◌∙◌, ne_eqb}
-use Rattle.grammar.specs.Trees.{argsAt}
+use Rattle.grammar.specs.Trees.{args_at}
 use Rattle.naming.specs.Calls.{called}
-use Rattle.naming.specs.Faults.{callFaults, countArgs}
-use Rattle.naming.specs.Sources.{source_of, rulesOf}
-use Rattle.naming.specs.Walks.{headParams}
+use Rattle.naming.specs.Faults.{call_faults, count_args}
+use Rattle.naming.specs.Sources.{source_of, rules_of}
+use Rattle.naming.specs.Walks.{head_params}
 use Rattle.naming.proofs.Called.{params-named, call_fits, call-wrong}
 use Rattle.naming.proofs.written.Written.callee.Goals as goal
 
 pub returns-in_err-params : goal.returns-in_err-params
 returns-in_err-params c =
-    let w = c.args.self in let n = countArgs (argsAt (source_of w) c.args.top w.nodes.now c.args.at) in
-    λ inside. ap (λ o. callFaults o c.args.token n inside) (params-named w.text.now (rulesOf w) c.args.token ∙ c.in_err-params.ensures) ∙ ap (λ o. called w o c.args.token inside) (sym c.from_residual.ensures)
+    let w = c.args.self in let n = count_args (args_at (source_of w) c.args.top w.nodes.now c.args.at) in
+    λ inside. ap (λ o. call_faults o c.args.token n inside) (params-named w.text.now (rules_of w) c.args.token ∙ c.in_err-params.ensures) ∙ ap (λ o. called w o c.args.token inside) (sym c.from_residual.ensures)
 
 pub returns-then-count_left-count_args : goal.returns-then-count_left-count_args
 returns-then-count_left-count_args c =
-    let w = c.args.self in let n = countArgs (argsAt (source_of w) c.args.top w.nodes.now c.args.at) in
-    λ inside. ap (λ o. callFaults o c.args.token n inside) (params-named w.text.now (rulesOf w) c.args.token ∙ c.in_ok-params.ensures)
-    ∙ call_fits (headParams w c.in_ok-params.params) c.args.token n inside (sym (ap length c.head.ensures) ∙ sym c.count_left.ensures ∙ c.if-count_left-count_args.true ∙ c.count_args.ensures)
+    let w = c.args.self in let n = count_args (args_at (source_of w) c.args.top w.nodes.now c.args.at) in
+    λ inside. ap (λ o. call_faults o c.args.token n inside) (params-named w.text.now (rules_of w) c.args.token ∙ c.in_ok-params.ensures)
+    ∙ call_fits (head_params w c.in_ok-params.params) c.args.token n inside (sym (ap length c.head.ensures) ∙ sym c.count_left.ensures ∙ c.if-count_left-count_args.true ∙ c.count_args.ensures)
 
 pub returns-else-count_left-count_args : goal.returns-else-count_left-count_args
 returns-else-count_left-count_args c =
-    let w = c.args.self in let n = countArgs (argsAt (source_of w) c.args.top w.nodes.now c.args.at) in
-    λ inside. ap (λ o. callFaults o c.args.token n inside) (params-named w.text.now (rulesOf w) c.args.token ∙ c.in_ok-params.ensures)
-    ∙ call-wrong (headParams w c.in_ok-params.params) c.args.token n inside (ne_eqb _ _ (λ e. c.if-count_left-count_args.false (c.count_left.ensures ∙ ap length c.head.ensures ∙ e ∙ sym c.count_args.ensures)))
+    let w = c.args.self in let n = count_args (args_at (source_of w) c.args.top w.nodes.now c.args.at) in
+    λ inside. ap (λ o. call_faults o c.args.token n inside) (params-named w.text.now (rules_of w) c.args.token ∙ c.in_ok-params.ensures)
+    ∙ call-wrong (head_params w c.in_ok-params.params) c.args.token n inside (ne_eqb _ _ (λ e. c.if-count_left-count_args.false (c.count_left.ensures ∙ ap length c.head.ensures ∙ e ∙ sym c.count_args.ensures)))

@@ -1,12 +1,12 @@
 use Rattle.std.proofs.Common.{◌≡◌, ◌+◌, length, sym, ap, ◌∙◌, arith}
 use Rattle.letters.specs.declared.kind.Kind.TheVariants.{Comma}
-use Rattle.letters.specs.Kinds.{sameKind}
+use Rattle.letters.specs.Kinds.{same_kind}
 use Rattle.grammar.specs.Parsers.{is_a}
-use Rattle.grammar.specs.Stretches.{conditionAt}
+use Rattle.grammar.specs.Stretches.{condition_at}
 use Rattle.grammar.specs.Trees.{look_of}
-use Rattle.naming.specs.Faults.{conditionFaults}
+use Rattle.naming.specs.Faults.{condition_faults}
 use Rattle.naming.specs.Least.{merged, least}
-use Rattle.naming.specs.Reaches.{tokensOf}
+use Rattle.naming.specs.Reaches.{tokens_of}
 use Rattle.naming.specs.Sources.{source_of}
 use Rattle.naming.specs.Stretching.{conditions}
 use Rattle.naming.proofs.Begins.{comma-stands}
@@ -16,13 +16,13 @@ use Rattle.naming.proofs.written.Written.conditions_fault.Goals as goal
 
 pub returns-then-at-self : goal.returns-then-at-self
 unfolding least
-returns-then-at-self c = let w = c.args.self in sym (ap least (past-conditions w.text.now (tokensOf w c.args.names.now) w.tokens.now (length w.text.now) (length w.tokens.now) c.args.at (omega arith)))
+returns-then-at-self c = let w = c.args.self in sym (ap least (past-conditions w.text.now (tokens_of w c.args.names.now) w.tokens.now (length w.text.now) (length w.tokens.now) c.args.at (omega arith)))
 
 pub loop-rest-init : goal.loop-rest-init
 loop-rest-init c =
-    let w = c.args.self in let l = look_of (source_of w) in let n = length w.tokens.now in let ns = tokensOf w c.args.names.now in
-    let F = conditionFaults w.text.now ns in let f = c.condition_fault-first in (
-      ap (λ xs. least (F xs)) (conditions-list l n c.args.at) ∙ starts F _ (each-condition w.text.now ns) (conditionAt n l c.args.at).value (conditions n l n (conditionAt n l c.args.at).next) f.result.fault f.ensures.fault
+    let w = c.args.self in let l = look_of (source_of w) in let n = length w.tokens.now in let ns = tokens_of w c.args.names.now in
+    let F = condition_faults w.text.now ns in let f = c.condition_fault-first in (
+      ap (λ xs. least (F xs)) (conditions-list l n c.args.at) ∙ starts F _ (each-condition w.text.now ns) (condition_at n l c.args.at).value (conditions n l n (condition_at n l c.args.at).next) f.result.fault f.ensures.fault
           ∙ ap (λ i. merged f.result.fault (least (F (conditions n l n i)))) (sym f.ensures.next),
       f.ensures.near,
     )
@@ -34,19 +34,19 @@ condition_fault-condition-requires c =
 
 pub loop-rest-preserved : goal.loop-rest-preserved
 loop-rest-preserved c =
-    let w = c.args.self in let l = look_of (source_of w) in let n = length w.tokens.now in let ns = tokensOf w c.args.names.now in
+    let w = c.args.self in let l = look_of (source_of w) in let n = length w.tokens.now in let ns = tokens_of w c.args.names.now in
     let f = c.condition_fault-condition in (
-      turns l (is_a Comma) (λ t j. conditionAt n l j) _ _ (each-condition w.text.now ns) c.loop-rest.rest c.loop-rest.next _ c.loop-rest.fault f.result.fault c.earlier-fault.result f.result.next
+      turns l (is_a Comma) (λ t j. condition_at n l j) _ _ (each-condition w.text.now ns) c.loop-rest.rest c.loop-rest.next _ c.loop-rest.fault f.result.fault c.earlier-fault.result f.result.next
           c.loop-rest.invariant.0 c.loop-rest-test.true (sym (c.if-is.ensures ∙ ap (is_a Comma) c.token.ensures)) f.ensures.fault f.ensures.next c.earlier-fault.ensures,
       f.ensures.near,
     )
 
 pub returns-else-is : goal.returns-else-is
 returns-else-is c =
-    let w = c.args.self in let l = look_of (source_of w) in let n = length w.tokens.now in let ns = tokensOf w c.args.names.now in
-    ends _ _ (each-condition w.text.now ns) _ _ c.loop-rest.fault c.loop-rest.invariant.0 (rest-none l (is_a Comma) (λ t j. conditionAt n l j) c.loop-rest.rest c.loop-rest.next (sym (c.if-is.ensures ∙ ap (is_a Comma) c.token.ensures)))
+    let w = c.args.self in let l = look_of (source_of w) in let n = length w.tokens.now in let ns = tokens_of w c.args.names.now in
+    ends _ _ (each-condition w.text.now ns) _ _ c.loop-rest.fault c.loop-rest.invariant.0 (rest-none l (is_a Comma) (λ t j. condition_at n l j) c.loop-rest.rest c.loop-rest.next (sym (c.if-is.ensures ∙ ap (is_a Comma) c.token.ensures)))
 
 pub returns-after-loop-rest : goal.returns-after-loop-rest
 returns-after-loop-rest c =
-    let w = c.args.self in let l = look_of (source_of w) in let n = length w.tokens.now in let ns = tokensOf w c.args.names.now in
-    ends _ _ (each-condition w.text.now ns) _ _ c.loop-rest.fault c.loop-rest.invariant.0 (rest_out l (is_a Comma) (λ t j. conditionAt n l j) c.loop-rest.rest c.loop-rest.next (omega arith))
+    let w = c.args.self in let l = look_of (source_of w) in let n = length w.tokens.now in let ns = tokens_of w c.args.names.now in
+    ends _ _ (each-condition w.text.now ns) _ _ c.loop-rest.fault c.loop-rest.invariant.0 (rest_out l (is_a Comma) (λ t j. condition_at n l j) c.loop-rest.rest c.loop-rest.next (omega arith))

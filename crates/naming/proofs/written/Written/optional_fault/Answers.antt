@@ -1,10 +1,10 @@
 use Rattle.std.proofs.Common.{◌≡◌, suc, ◌+◌, cond, [], length, sym, ap, ◌∙◌, arith}
 use Rattle.grammar.specs.Parsers.{is_a}
-use Rattle.grammar.specs.Stretches.{conditionsAt}
+use Rattle.grammar.specs.Stretches.{conditions_at}
 use Rattle.grammar.specs.Trees.{look_of}
-use Rattle.naming.specs.Faults.{conditionFaults}
+use Rattle.naming.specs.Faults.{condition_faults}
 use Rattle.naming.specs.Least.{least}
-use Rattle.naming.specs.Reaches.{tokensOf}
+use Rattle.naming.specs.Reaches.{tokens_of}
 use Rattle.naming.specs.Sources.{source_of}
 use Rattle.naming.proofs.Begins.{stands}
 use Rattle.naming.proofs.Turns.{optional-yes, optional-no}
@@ -18,9 +18,9 @@ overflow_add-at c =
 pub returns-then-is : goal.returns-then-is
 returns-then-is c =
     let w = c.args.self in let l = look_of (source_of w) in
-    c.conditions_fault.ensures ∙ optional-yes w.text.now (tokensOf w c.args.names.now) (length w.tokens.now) l c.args.keyword c.args.at (sym (c.if-is.ensures ∙ ap (is_a c.args.keyword) c.token.ensures))
+    c.conditions_fault.ensures ∙ optional-yes w.text.now (tokens_of w c.args.names.now) (length w.tokens.now) l c.args.keyword c.args.at (sym (c.if-is.ensures ∙ ap (is_a c.args.keyword) c.token.ensures))
 
 pub returns-else-is : goal.returns-else-is
 returns-else-is c =
     let w = c.args.self in let l = look_of (source_of w) in
-    optional-no w.text.now (tokensOf w c.args.names.now) (length w.tokens.now) l c.args.keyword c.args.at (sym (c.if-is.ensures ∙ ap (is_a c.args.keyword) c.token.ensures))
+    optional-no w.text.now (tokens_of w c.args.names.now) (length w.tokens.now) l c.args.keyword c.args.at (sym (c.if-is.ensures ∙ ap (is_a c.args.keyword) c.token.ensures))

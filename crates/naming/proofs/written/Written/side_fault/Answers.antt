@@ -1,26 +1,26 @@
 use Rattle.std.proofs.Common.{◌≡◌, ◌+◌, false, length, sym, ap, ◌∙◌, arith}
 use Rattle.letters.specs.declared.kind.Kind.TheVariants.{Minus}
-use Rattle.letters.specs.Kinds.{sameKind}
+use Rattle.letters.specs.Kinds.{same_kind}
 use Rattle.grammar.specs.Parsers.{is_a}
-use Rattle.grammar.specs.Sheets.{sumSign}
+use Rattle.grammar.specs.Sheets.{sum_sign}
 use Rattle.grammar.specs.Stretches.{item_at}
 use Rattle.grammar.specs.Trees.{look_of}
-use Rattle.naming.specs.Faults.{atomFaults, sideFaults}
+use Rattle.naming.specs.Faults.{atom_faults, side_faults}
 use Rattle.naming.specs.Least.{merged, least}
-use Rattle.naming.specs.Reaches.{tokensOf}
+use Rattle.naming.specs.Reaches.{tokens_of}
 use Rattle.naming.specs.Sources.{source_of}
-use Rattle.naming.specs.Stretching.{items, itemsEnd}
+use Rattle.naming.specs.Stretching.{items, items_end}
 use Rattle.naming.proofs.Joins.{rest-none, rest_out}
 use Rattle.naming.proofs.Turns.{each-side, starts, turns, ends, side-list, side-end, end_more, end_none, end-out, sign-stands}
 use Rattle.naming.proofs.written.Written.side_fault.Goals as goal
 
 pub loop-rest-init : goal.loop-rest-init
 loop-rest-init c =
-    let w = c.args.self in let l = look_of (source_of w) in let n = length w.tokens.now in let ns = tokensOf w c.args.names.now in
-    let F = sideFaults w.text.now ns in let f = c.item_fault-first in (
+    let w = c.args.self in let l = look_of (source_of w) in let n = length w.tokens.now in let ns = tokens_of w c.args.names.now in
+    let F = side_faults w.text.now ns in let f = c.item_fault-first in (
       ap (λ xs. least (F xs)) (side-list l n c.args.at) ∙ starts F _ (each-side w.text.now ns) (item_at l false c.args.at).value (items l n (item_at l false c.args.at).next) f.result.fault (f.ensures.fault false)
           ∙ ap (λ i. merged f.result.fault (least (F (items l n i)))) (sym (f.ensures.next false)),
-      side-end l n c.args.at ∙ ap (itemsEnd l n) (sym (f.ensures.next false)),
+      side-end l n c.args.at ∙ ap (items_end l n) (sym (f.ensures.next false)),
       omega (arith, f.ensures.near),
     )
 
@@ -31,27 +31,27 @@ item_fault-item-requires c =
 
 pub loop-rest-preserved : goal.loop-rest-preserved
 loop-rest-preserved c =
-    let w = c.args.self in let l = look_of (source_of w) in let ns = tokensOf w c.args.names.now in
+    let w = c.args.self in let l = look_of (source_of w) in let ns = tokens_of w c.args.names.now in
     let f = c.item_fault-item in let m = is_a Minus (l c.loop-rest.next) in
     let s = sign-stands w.tokens.now (length w.text.now) c.loop-rest.next (sym c.if-is_sign.ensures) in (
-      turns l sumSign (λ t j. item_at l (is_a Minus t) j) _ _ (each-side w.text.now ns) c.loop-rest.rest c.loop-rest.next _ c.loop-rest.fault f.result.fault c.earlier-fault.result f.result.next
+      turns l sum_sign (λ t j. item_at l (is_a Minus t) j) _ _ (each-side w.text.now ns) c.loop-rest.rest c.loop-rest.next _ c.loop-rest.fault f.result.fault c.earlier-fault.result f.result.next
           c.loop-rest.invariant.0 c.loop-rest-test.true (sym c.if-is_sign.ensures) (f.ensures.fault m) (f.ensures.next m) c.earlier-fault.ensures,
-      c.loop-rest.invariant.1 ∙ end_more l sumSign (λ t j. item_at l (is_a Minus t) j) c.loop-rest.rest c.loop-rest.next c.loop-rest-test.true (sym c.if-is_sign.ensures) ∙ ap (itemsEnd l _) (sym (f.ensures.next m)),
+      c.loop-rest.invariant.1 ∙ end_more l sum_sign (λ t j. item_at l (is_a Minus t) j) c.loop-rest.rest c.loop-rest.next c.loop-rest-test.true (sym c.if-is_sign.ensures) ∙ ap (items_end l _) (sym (f.ensures.next m)),
       omega (arith, f.ensures.near, w.few),
     )
 
 pub returns-else-is_sign : goal.returns-else-is_sign
 returns-else-is_sign c =
-    let w = c.args.self in let l = look_of (source_of w) in let ns = tokensOf w c.args.names.now in record {
-      fault = ends _ _ (each-side w.text.now ns) _ _ c.loop-rest.fault c.loop-rest.invariant.0 (rest-none l sumSign (λ t j. item_at l (is_a Minus t) j) c.loop-rest.rest c.loop-rest.next (sym c.if-is_sign.ensures));
-      next = sym (c.loop-rest.invariant.1 ∙ end_none l sumSign (λ t j. item_at l (is_a Minus t) j) c.loop-rest.rest c.loop-rest.next (sym c.if-is_sign.ensures));
+    let w = c.args.self in let l = look_of (source_of w) in let ns = tokens_of w c.args.names.now in record {
+      fault = ends _ _ (each-side w.text.now ns) _ _ c.loop-rest.fault c.loop-rest.invariant.0 (rest-none l sum_sign (λ t j. item_at l (is_a Minus t) j) c.loop-rest.rest c.loop-rest.next (sym c.if-is_sign.ensures));
+      next = sym (c.loop-rest.invariant.1 ∙ end_none l sum_sign (λ t j. item_at l (is_a Minus t) j) c.loop-rest.rest c.loop-rest.next (sym c.if-is_sign.ensures));
       near = c.loop-rest.invariant.2;
     }
 
 pub returns-after-loop-rest : goal.returns-after-loop-rest
 returns-after-loop-rest c =
-    let w = c.args.self in let l = look_of (source_of w) in let ns = tokensOf w c.args.names.now in record {
-      fault = ends _ _ (each-side w.text.now ns) _ _ c.loop-rest.fault c.loop-rest.invariant.0 (rest_out l sumSign (λ t j. item_at l (is_a Minus t) j) c.loop-rest.rest c.loop-rest.next (omega arith));
-      next = sym (c.loop-rest.invariant.1 ∙ end-out l sumSign (λ t j. item_at l (is_a Minus t) j) c.loop-rest.rest c.loop-rest.next (omega arith));
+    let w = c.args.self in let l = look_of (source_of w) in let ns = tokens_of w c.args.names.now in record {
+      fault = ends _ _ (each-side w.text.now ns) _ _ c.loop-rest.fault c.loop-rest.invariant.0 (rest_out l sum_sign (λ t j. item_at l (is_a Minus t) j) c.loop-rest.rest c.loop-rest.next (omega arith));
+      next = sym (c.loop-rest.invariant.1 ∙ end-out l sum_sign (λ t j. item_at l (is_a Minus t) j) c.loop-rest.rest c.loop-rest.next (omega arith));
       near = c.loop-rest.invariant.2;
     }

@@ -1,6 +1,6 @@
 use Rattle.std.proofs.Common.{◌≡◌, length, sym, refl, ap, ◌∙◌, arith}
 use Rattle.letters.specs.declared.kind.Kind.TheVariants.{Comma}
-use Rattle.letters.specs.Kinds.{sameKind}
+use Rattle.letters.specs.Kinds.{same_kind}
 use Rattle.grammar.specs.Parsers.{is_a}
 use Rattle.grammar.specs.Stretches.{param_at}
 use Rattle.grammar.specs.Trees.{look_of}
@@ -14,7 +14,7 @@ pub returns-then-not-head : goal.returns-then-not-head
 returns-then-not-head c = left-none _ c.args.head.at c.args.head.rest c.args.head.here (is_false c.if-not-head.true)
 
 pub invariant_of-head : goal.invariant_of-head
-unfolding sameKind
+unfolding same_kind
 invariant_of-head c =
     let s = stands Comma c.args.self.tokens.now (length c.args.self.text.now) c.param-next.result.1 refl (sym (c.if-is.ensures ∙ ap (is_a Comma) c.token.ensures)) in
     record { within = (omega arith, omega arith) }
