@@ -11,3 +11,11 @@ pub mod Ruling
 pub mod Wholes
 pub mod Readings
 pub mod Joins
+pub mod Sound
+pub mod Local
+pub mod Whole
+pub mod Finishing
+pub mod Completing
+pub mod Splicing
+pub mod Lawfully
+pub mod Weighing

@@ -6,3 +6,6 @@ pub mod Trees
 pub mod Held
 pub mod Parsed
 pub mod Pieces
+pub mod Derives
+pub mod Lawful
+pub mod Weights

@@ -2,6 +2,7 @@ ghost use Rattle.std.specs.Prelude.{◌≡◌, ◌<◌, [], length};
 ghost use Rattle.grammar.specs.Sheets.{rule_s};
 ghost use Rattle.grammar.specs.Held.{held, look, Went, RuleStands, Paid};
 ghost use Rattle.grammar.specs.Parsed.{Ruled, Parsed};
+ghost use Rattle.grammar.specs.Lawful.{Lawful};
 
 use crate::node::Node;
 use crate::parser::Parser;
@@ -48,7 +49,8 @@ impl Parser<'_, '_> {
 
 // The tree of a sheet, in nodes, of which the count is given. What a refusal leaves in the nodes is not said.
 pub fn parse(tokens: &[Token], end: usize, nodes: &mut [Node]) -> Result<usize, Unread>
-    ensures { Parsed result tokens.now end (length nodes.old) nodes.new }
+    ensures parsed { Parsed result tokens.now end (length nodes.old) nodes.new }
+    ensures law { Lawful result tokens.now end nodes.new }
 {
     if nodes.len() < tokens.len() {
         return Err(Unread::Full);

@@ -4,9 +4,9 @@ use Rattle.std.proofs.lemmas.List.{take_all}
 use Rattle.letters.specs.declared.token.Token.{Token}
 use Rattle.grammar.specs.declared.node.Node.{Node}
 use Rattle.grammar.specs.Parsers.{look_in}
-use Rattle.syntax.specs.Derives.{DSheet}
-use Rattle.syntax.specs.Weights.{weight_of}
-use Rattle.syntax.proofs.Weighing.{weighs}
+use Rattle.grammar.specs.Derives.{DSheet}
+use Rattle.grammar.specs.Weights.{weight_of}
+use Rattle.grammar.proofs.Weighing.{weighs}
 use Rattle.naming.specs.declared.written.Written.{Written}
 use Rattle.naming.specs.Reaches.{sheet_of}
 use Rattle.naming.specs.Sources.{sheet_in, rules_of}

@@ -19,7 +19,7 @@ use Rattle.grammar.specs.Parsers.{look_in}
 use Rattle.grammar.specs.Parsed.{source_of, Parsed}
 use Rattle.grammar.specs.Trees.{rules_to}
 use Rattle.grammar.proofs.Parts.{rules-front}
-use Rattle.syntax.specs.Lawful.{OnlySheet, NoSheet, Lawful}
+use Rattle.grammar.specs.Lawful.{OnlySheet, NoSheet, Lawful}
 use Rattle.naming.specs.Sources.{sheet_in}
 use Rattle.resolving.specs.Making.{Small}
 use Rattle.language.specs.declared.refusal.Refusal.{Refusal}

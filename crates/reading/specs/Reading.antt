@@ -7,7 +7,7 @@ use Rattle.grammar.specs.Raw as Raw
 use Rattle.grammar.specs.declared.unread.Unread.{Unread}
 use Rattle.grammar.specs.declared.unread.Unread.TheVariants as Unreads
 use Rattle.grammar.specs.Parsers.{Look, look_in}
-use Rattle.syntax.specs.Lawful.{OnlySheet, NoSheet}
+use Rattle.grammar.specs.Lawful.{OnlySheet, NoSheet}
 use Rattle.naming.specs.Faults.{name_fault}
 use Rattle.counting.specs.Counts.{count_fault}
 use Rattle.resolving.specs.Resolving.{sheet_of}

@@ -2,18 +2,17 @@ ghost use Rattle.std.specs.Prelude.{◌≡◌, ℕ, ◌≤◌, length};
 ghost use Rattle.reading.specs.Reading.{in_range, misspelling, misreading};
 ghost use Rattle.grammar.specs.Parsers.{look_in};
 ghost use Rattle.naming.specs.Sources.{sheet_in};
-ghost use Rattle.syntax.specs.Derives.{DSheet};
+ghost use Rattle.grammar.specs.Derives.{DSheet};
 ghost use Rattle.resolving.specs.Making.{Small};
 ghost use Rattle.reading.specs.Answers.{Answer, Staged, Checked};
 
 use counting::count_fault;
-use grammar::{Node as Raw, Unread};
+use grammar::{Node as Raw, Unread, parse};
 use language::Refusal;
 use letters::{Misspelt, Token, cut};
 use naming::{Written, name_fault};
 use records::{Laid, Record, clear};
 use resolving::resolve;
-use syntax::parse;
 
 // So many records hold every sheet that is read.
 pub const LEAST_RECORDS: usize = 4_096;

@@ -5,7 +5,7 @@ use Rattle.grammar.specs.declared.node.Node.{Node}
 use Rattle.grammar.specs.Raw as Raw
 use Rattle.grammar.specs.Trees.{Source, Part, grown, part_in, raw_at}
 use Rattle.grammar.proofs.Parts.{step}
-use Rattle.syntax.specs.Weights.{expr_weight, condition_weight, conditions_weight}
+use Rattle.grammar.specs.Weights.{expr_weight, condition_weight, conditions_weight}
 use Rattle.naming.specs.declared.written.Written.{Written}
 use Rattle.naming.specs.Reaches.{scope_of}
 use Rattle.naming.specs.Scopes.{Scope, Sheet, slot_in, rule_in, next}

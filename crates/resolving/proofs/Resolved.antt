@@ -3,7 +3,7 @@ use Rattle.std.proofs.Common.{◌≡◌, ℕ, suc, ◌+◌, ◌<◌, List, lengt
 use Rattle.std.specs.List.{slice_get}
 use Rattle.letters.specs.declared.token.Token.{Token}
 use Rattle.grammar.specs.Raw as Raw
-use Rattle.syntax.specs.Weights.{expr_weight, args_weight, conditions_weight}
+use Rattle.grammar.specs.Weights.{expr_weight, args_weight, conditions_weight}
 use Rattle.naming.specs.Faults.{bare_list}
 use Rattle.naming.specs.Scopes.{Scope, Sheet, slot_in, rule_in, naming}
 use Rattle.language.specs.declared.sign.Operator.{Operator}

@@ -3,7 +3,7 @@ use Rattle.std.proofs.Common.{◌≡◌, ℕ, zero, suc, ◌+◌, ◌<◌, ◌�
 use Rattle.std.proofs.lemmas.Bool.{cases_lt}
 use Rattle.std.proofs.lemmas.List.{length-map, length_push, map_push, append-nil}
 use Rattle.grammar.specs.Raw as Raw
-use Rattle.syntax.specs.Weights.{conditions_weight, rule_weight}
+use Rattle.grammar.specs.Weights.{conditions_weight, rule_weight}
 use Rattle.naming.specs.Scopes.{Scope, Sheet, empty, head_scope}
 use Rattle.language.specs.Tree as Tree
 use Rattle.letters.specs.declared.token.Token.{Token}
@@ -22,7 +22,7 @@ use Rattle.grammar.specs.Trees.{Source, raw_at, rules_to}
 use Rattle.grammar.specs.Trees as Trees
 use Rattle.std.specs.List.{slice_get}
 use Rattle.std.proofs.lemmas.List.Sums.{sum_by-append, sum_by_push}
-use Rattle.syntax.specs.Weights.{weight_of}
+use Rattle.grammar.specs.Weights.{weight_of}
 use Rattle.records.specs.Counting.{exprs_up_to, claims_up_to, nodes_up_to, listed_up_to}
 use Rattle.records.proofs.Rules.{rules-more}
 use Rattle.records.proofs.Standing.{wider}

@@ -1,7 +1,7 @@
 -- How the tables grow while a tree is put into them.
 use Rattle.std.specs.Prelude.{◌≡◌, ℕ, ◌+◌, ◌<◌, ◌≤◌, length}
 use Rattle.grammar.specs.Raw as Raw
-use Rattle.syntax.specs.Weights.{expr_weight, args_weight}
+use Rattle.grammar.specs.Weights.{expr_weight, args_weight}
 use Rattle.naming.specs.Scopes.{Scope, Sheet}
 use Rattle.language.specs.Tree as Tree
 use Rattle.records.specs.declared.node.Node.{Node}

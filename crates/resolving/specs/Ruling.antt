@@ -5,7 +5,7 @@ use Rattle.grammar.specs.Raw as Raw
 use Rattle.grammar.specs.Sheets as Sheets
 use Rattle.grammar.specs.Stretches.{params_at, optional_at}
 use Rattle.grammar.specs.Trees.{look_of, raw_at}
-use Rattle.syntax.specs.Weights.{rule_weight, weight_of}
+use Rattle.grammar.specs.Weights.{rule_weight, weight_of}
 use Rattle.naming.specs.declared.written.Written.{Written}
 use Rattle.naming.specs.declared.taken.Ruled.{Ruled}
 use Rattle.naming.specs.Scopes.{Sheet}

@@ -9,7 +9,7 @@ ghost use Rattle.naming.specs.Sources.{source_of};
 ghost use Rattle.records.specs.Tables as lists;
 ghost use Rattle.resolving.specs.Resolving.{signed, factor_of, atom_of, item_of, condition_of, conditions_of};
 ghost use Rattle.resolving.specs.Making.{Fit, Added, Listing, Formed, ItemsAlone, ConditionsAlone};
-ghost use Rattle.syntax.specs.Weights.{condition_weight, conditions_weight};
+ghost use Rattle.grammar.specs.Weights.{condition_weight, conditions_weight};
 
 use crate::item::{ConditionAt, ItemAt};
 use crate::lookups::slot;

@@ -1,7 +1,7 @@
 ghost use Rattle.std.specs.Prelude.{◌≡◌, ◌+◌, ◌≤◌, map, length};
 ghost use Rattle.grammar.specs.Raw as raw;
 ghost use Rattle.grammar.specs.Trees.{raw_at, args_at};
-ghost use Rattle.syntax.specs.Weights.{expr_weight, args_weight};
+ghost use Rattle.grammar.specs.Weights.{expr_weight, args_weight};
 ghost use Rattle.pile.specs.Entries.{entries, room};
 ghost use Rattle.naming.specs.Reaches.{tokens_of, scope_of, sheet_of};
 ghost use Rattle.naming.specs.Sources.{source_of, rules_of};

@@ -1,6 +1,6 @@
 ghost use Rattle.std.specs.Prelude.{◌≡◌, ◌+◌, ◌≤◌, false, [], map, length};
 ghost use Rattle.grammar.specs.Raw as raw;
-ghost use Rattle.syntax.specs.Weights.{rule_weight, weight_of};
+ghost use Rattle.grammar.specs.Weights.{rule_weight, weight_of};
 ghost use Rattle.pile.specs.Entries.{entries, room};
 ghost use Rattle.naming.specs.Reaches.{tokens_of, sheet_of};
 ghost use Rattle.naming.specs.Sources.{rules_of};

@@ -18,8 +18,8 @@ use Rattle.grammar.specs.Parsers.{Look, look_in, fault}
 use Rattle.grammar.specs.Sheets.{sheet_s}
 use Rattle.grammar.specs.Held.{Comes}
 use Rattle.grammar.specs.Parsed.{Parsed}
-use Rattle.syntax.specs.Derives.{DSheet, Upto}
-use Rattle.syntax.specs.Lawful.{Lawful}
+use Rattle.grammar.specs.Derives.{DSheet, Upto}
+use Rattle.grammar.specs.Lawful.{Lawful}
 use Rattle.showing.specs.Probes.{Apart, probed, passed, reads, stops, Tells}
 
 module _ (ts : List Token) (w : ℕ) (k : Kind) (apart : Apart ts w) where

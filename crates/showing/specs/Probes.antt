@@ -10,7 +10,7 @@ use Rattle.grammar.specs.Raw.{Sheet}
 use Rattle.grammar.specs.Parsers.{Look, look_in, done, fault}
 use Rattle.grammar.specs.Sheets.{sheet_s}
 use Rattle.grammar.specs.Held.{Comes}
-use Rattle.syntax.specs.Derives.{DSheet, Upto}
+use Rattle.grammar.specs.Derives.{DSheet, Upto}
 use Rattle.showing.specs.declared.kinds.Kinds.{Kinds}
 use Rattle.showing.specs.Kinds.{among}
 

@@ -3,9 +3,8 @@ ghost use Rattle.grammar.specs.Parsers.{look_in};
 ghost use Rattle.showing.specs.Probes.{number_at, Apart, probed, passed, Tells, TellsEach, Told};
 
 use crate::kinds::{KINDS, Kinds};
-use grammar::{Node, Unread};
+use grammar::{Node, Unread, parse};
 use letters::{Kind, Token};
-use syntax::parse;
 
 // The number of the first token that begins at a place, or of the end.
 fn number_at(tokens: &[Token], place: usize) -> usize

@@ -3,8 +3,8 @@ use Rattle.std.proofs.lemmas.Int.{to_z-of_z}
 use Rattle.letters.specs.Cuts.{cut_of}
 use Rattle.letters.specs.Spelling as Spelling
 use Rattle.grammar.specs.Parsers.{look_in}
-use Rattle.syntax.specs.Derives.{DSheet}
-use Rattle.syntax.specs.Lawful.{OnlySheet}
+use Rattle.grammar.specs.Derives.{DSheet}
+use Rattle.grammar.specs.Lawful.{OnlySheet}
 use Rattle.naming.specs.Sources.{sheet_in}
 use Rattle.language.specs.declared.refusal.Refusal.{Refusal}
 use Rattle.reading.specs.Reading.{Reads, in_range, out_of_range, misspelt}

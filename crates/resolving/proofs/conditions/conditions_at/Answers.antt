@@ -6,7 +6,7 @@ use Rattle.letters.specs.declared.token.Token.{Token}
 use Rattle.grammar.specs.Parsers.{is_a}
 use Rattle.grammar.specs.Stretches.{condition_at, conditions_at}
 use Rattle.grammar.specs.Trees.{look_of}
-use Rattle.syntax.specs.Weights.{condition_weight, conditions_weight}
+use Rattle.grammar.specs.Weights.{condition_weight, conditions_weight}
 use Rattle.records.specs.Laying.{columns_of}
 use Rattle.naming.specs.Reaches.{scope_of}
 use Rattle.naming.specs.Sources.{source_of}

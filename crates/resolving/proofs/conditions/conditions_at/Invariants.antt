@@ -1,6 +1,6 @@
 use Rattle.std.proofs.Common.{◌+◌, ◌≤◌, [], length}
 use Rattle.grammar.specs.Trees.{look_of}
-use Rattle.syntax.specs.Weights.{conditions_weight}
+use Rattle.grammar.specs.Weights.{conditions_weight}
 use Rattle.records.specs.Laying.{columns_of}
 use Rattle.naming.specs.Reaches.{scope_of}
 use Rattle.naming.specs.Sources.{source_of}

@@ -2,7 +2,7 @@ use Rattle.std.proofs.Common.{◌≡◌, suc, ◌+◌, cond, [], length, sym, ap
 use Rattle.grammar.specs.Parsers.{is_a}
 use Rattle.grammar.specs.Stretches.{conditions_at, optional_at}
 use Rattle.grammar.specs.Trees.{look_of}
-use Rattle.syntax.specs.Weights.{conditions_weight}
+use Rattle.grammar.specs.Weights.{conditions_weight}
 use Rattle.records.specs.Laying.{columns_of}
 use Rattle.naming.specs.Reaches.{scope_of}
 use Rattle.naming.specs.Sources.{source_of}

@@ -6,7 +6,7 @@ use Rattle.grammar.specs.declared.node.Node.{Node}
 use Rattle.grammar.specs.Raw as Raw
 use Rattle.grammar.specs.Stretches.{conditions_at}
 use Rattle.grammar.specs.Trees.{look_of, grown, part_in, raw_at, args_at, no_expr}
-use Rattle.syntax.specs.Weights.{expr_weight, args_weight, conditions_weight}
+use Rattle.grammar.specs.Weights.{expr_weight, args_weight, conditions_weight}
 use Rattle.pile.specs.Entries.{entries, room}
 use Rattle.naming.specs.Reaches.{tokens_of, scope_of, sheet_of}
 use Rattle.naming.specs.Scopes.{Scope, slot_in, naming}

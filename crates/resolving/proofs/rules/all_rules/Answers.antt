@@ -1,7 +1,7 @@
 use Rattle.std.proofs.Common.{◌≡◌, ◌+◌, [], ◌∷◌, ◌++◌, length, sym, refl, ap, ◌∙◌, subst, arith}
 use Rattle.std.proofs.lemmas.List.Sums.{sum_by_push}
 use Rattle.grammar.specs.Trees.{rules_to}
-use Rattle.syntax.specs.Weights.{rule_weight, weight_of}
+use Rattle.grammar.specs.Weights.{rule_weight, weight_of}
 use Rattle.pile.specs.Entries.{room}
 use Rattle.naming.specs.Reaches.{sheet_of}
 use Rattle.naming.specs.Sources.{source_of}

@@ -4,7 +4,7 @@ use Rattle.letters.specs.declared.kind.Kind.TheVariants.{Needs, Gives}
 use Rattle.letters.specs.Kinds.{same_kind}
 use Rattle.grammar.specs.Stretches.{params_at, optional_at}
 use Rattle.grammar.specs.Trees.{look_of, raw_at}
-use Rattle.syntax.specs.Weights.{expr_weight, conditions_weight}
+use Rattle.grammar.specs.Weights.{expr_weight, conditions_weight}
 use Rattle.pile.specs.Entries.{entries}
 use Rattle.naming.specs.Reaches.{scope_of, sheet_of}
 use Rattle.naming.specs.Scopes.{Scope, empty, head_scope}

@@ -4,7 +4,7 @@ use Rattle.letters.specs.declared.token.Token.{Token}
 use Rattle.letters.specs.Tokens.{token_of}
 use Rattle.grammar.specs.Parsers.{look_in}
 use Rattle.grammar.specs.Parsed.{Parsed}
-use Rattle.syntax.specs.Lawful.{Lawful}
+use Rattle.grammar.specs.Lawful.{Lawful}
 use Rattle.showing.specs.Probes.{probed, passed, Tells}
 use Rattle.showing.proofs.Probing.{tells}
 use Rattle.showing.proofs.probes.goes_past.Goals as goal

@@ -8,8 +8,8 @@ use Rattle.letters.specs.declared.token.Token.{Token}
 use Rattle.grammar.specs.Raw.{Item, Side, Condition, Expr, Args, Param, Rule, Sheet}
 use Rattle.grammar.specs.Parsers.{Look, look_in}
 use Rattle.grammar.proofs.Laws.{inside}
-use Rattle.syntax.specs.Derives.{DItem, item-numeral, item-plain, item-times, DSide, side-first, side-more, DCondition, condition, DConditions, conditions-first, conditions-more, DParam, param-number, param-list, DParams, params-first, params_more, DHead, head-none, head-some, Level, Derives, at-numeral, at_name, at_read, at-call-none, at_call, at-nest, at-claim, product-one, product-more, sum_one, sum_more, expr-sum, expr-let, expr-if, expr-put, DArgs, args-first, args_more, DOptional, absent, present, DRule, rule, DRules, rules-none, rules-more, DSheet}
-use Rattle.syntax.specs.Weights.{condition_weight, conditions_weight, expr_weight, args_weight, rule_weight, weight_of}
+use Rattle.grammar.specs.Derives.{DItem, item-numeral, item-plain, item-times, DSide, side-first, side-more, DCondition, condition, DConditions, conditions-first, conditions-more, DParam, param-number, param-list, DParams, params-first, params_more, DHead, head-none, head-some, Level, Derives, at-numeral, at_name, at_read, at-call-none, at_call, at-nest, at-claim, product-one, product-more, sum_one, sum_more, expr-sum, expr-let, expr-if, expr-put, DArgs, args-first, args_more, DOptional, absent, present, DRule, rule, DRules, rules-none, rules-more, DSheet}
+use Rattle.grammar.specs.Weights.{condition_weight, conditions_weight, expr_weight, args_weight, rule_weight, weight_of}
 
 module _ (l : Look) where
   item-weighs : (res m : Bool) (i : ℕ) (x : Item) (j : ℕ) → DItem l res m i x j → 1 + i ≤ j

@@ -4,8 +4,8 @@ use Rattle.letters.specs.declared.kind.Kind.TheVariants.{End}
 use Rattle.letters.specs.declared.token.Token.{Token}
 use Rattle.letters.specs.Kinds.{same_kind}
 use Rattle.grammar.specs.Parsers.{Look, look_in, is_a}
-use Rattle.syntax.specs.Derives.{Is, Before}
-use Rattle.syntax.proofs.Finishing.{Runs, ran, runs}
+use Rattle.grammar.specs.Derives.{Is, Before}
+use Rattle.grammar.proofs.Finishing.{Runs, ran, runs}
 
 pub spliced : ℕ → Look → List Token → Look
 spliced zero l ts q = look_in ts 0 q

@@ -6,7 +6,7 @@ use Rattle.letters.specs.declared.token.Token.{Token}
 use Rattle.grammar.specs.Raw.{Condition, Expr, Args, none}
 use Rattle.grammar.specs.Parsers.{Look, is_a, Ans, done, fault, spent, P, then, give, stop, out, next, seq, when, wanted, turn, chain}
 use Rattle.grammar.specs.Sheets.{sum_sign, compares, quantity, item_s, item_on, side_s, condition_s, condition_on, conditions_s, optional_s, param_s, param_on, params_s, expr_by, calc_on, arg_on, args_by, atom_by, expr_s, sum_s, sum_from_s, product_s, product_from_s, args_s, args_from_s, atom_s, rule_s, rule_on, sheet_s}
-use Rattle.syntax.specs.Derives.{Upto}
+use Rattle.grammar.specs.Derives.{Upto}
 
 abbrev Beyond : {X : Type 0} → ℕ → Ans X → Type 0
 Beyond i (done x j) = i ≤ j

@@ -10,8 +10,8 @@ use Rattle.grammar.specs.Raw.{Item, Side, Condition, Expr, Args, num, none, Para
 use Rattle.grammar.specs.Raw as raw
 use Rattle.grammar.specs.Parsers.{Look, is_a, P, seq, wanted, want}
 use Rattle.grammar.specs.Sheets.{sum_sign, compares, quantity, plain_item, item_s, item_on, side_s, condition_of, condition_s, condition_on, conditions_s, optional_s, number_param, param_s, param_on, params_s, expr_by, calc_on, arg_on, args_by, atom_by, expr_s, sum_s, sum_from_s, product_s, product_from_s, args_s, args_from_s, atom_s, rule_of, rule_on, sheet_s}
-use Rattle.syntax.specs.Derives.{Is, DItem, item-numeral, item-plain, item-times, DSide, side-first, side-more, DCondition, condition, DConditions, conditions-first, conditions-more, DParam, param-number, param-list, DParams, params-first, params_more, DHead, head-none, head-some, Level, expr, sum, product, atom, Derives, at-numeral, at_name, at_read, at-call-none, at_call, at-nest, at-claim, product-one, product-more, sum_one, sum_more, expr-sum, expr-let, expr-if, expr-put, DArgs, args-first, args_more, DOptional, absent, present, rule, DRules, rules-none, rules-more, Before}
-use Rattle.syntax.proofs.Finishing.{Fact, Span, Runs, ran, runs, Sample, Goes, out-goes, give-goes, stop_goes, when-goes, seq-goes, turn-goes, none_more, Line, given, bind, token, stopped, part, fork, less, loop, run}
+use Rattle.grammar.specs.Derives.{Is, DItem, item-numeral, item-plain, item-times, DSide, side-first, side-more, DCondition, condition, DConditions, conditions-first, conditions-more, DParam, param-number, param-list, DParams, params-first, params_more, DHead, head-none, head-some, Level, expr, sum, product, atom, Derives, at-numeral, at_name, at_read, at-call-none, at_call, at-nest, at-claim, product-one, product-more, sum_one, sum_more, expr-sum, expr-let, expr-if, expr-put, DArgs, args-first, args_more, DOptional, absent, present, rule, DRules, rules-none, rules-more, Before}
+use Rattle.grammar.proofs.Finishing.{Fact, Span, Runs, ran, runs, Sample, Goes, out-goes, give-goes, stop_goes, when-goes, seq-goes, turn-goes, none_more, Line, given, bind, token, stopped, part, fork, less, loop, run}
 
 -- a token of this kind
 abbrev of : Kind → Token

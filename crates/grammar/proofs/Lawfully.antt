@@ -1,23 +1,21 @@
 -- What the parsers answer is the grammar's sheet, or there is none.
-use Rattle.std.proofs.Common.{◌≡◌, ℕ, max, List, Ok, Err, Result, sym, ◌∙◌, subst, arith}
+use Rattle.std.proofs.Common.{◌≡◌, ℕ, max, List, sym, ◌∙◌, subst, arith}
 use Rattle.letters.specs.declared.token.Token.{Token}
 use Rattle.grammar.specs.declared.node.Node.{Node}
-use Rattle.grammar.specs.declared.unread.Unread.{Unread}
-use Rattle.grammar.specs.declared.unread.Unread.TheVariants.{Full, Fault}
 use Rattle.grammar.specs.Parsers.{Look, fault, look_in}
 use Rattle.grammar.specs.Sheets.{sheet_s}
 use Rattle.grammar.specs.Trees.{rules_to}
-use Rattle.grammar.specs.Parsed.{source_of, Sheeted, Faulted, Parsed}
-use Rattle.syntax.specs.Lawful.{OnlySheet, Begun, NoSheet, Lawful}
+use Rattle.grammar.specs.Parsed.{source_of, Sheeted, Faulted}
+use Rattle.grammar.specs.Lawful.{OnlySheet, Begun, NoSheet}
 use Rattle.grammar.proofs.Inverts.{no-fault, done-val}
-use Rattle.syntax.proofs.Sound.{sheet-sound}
-use Rattle.syntax.proofs.Whole.{sheet-full}
-use Rattle.syntax.proofs.Local.{Seen, sheet-good}
-use Rattle.syntax.proofs.Finishing.{can-of}
-use Rattle.syntax.proofs.Completing.{sheet-goes}
-use Rattle.syntax.proofs.Splicing.{spliced, spliced-before, spliced-runs}
+use Rattle.grammar.proofs.Sound.{sheet-sound}
+use Rattle.grammar.proofs.Whole.{sheet-full}
+use Rattle.grammar.proofs.Local.{Seen, sheet-good}
+use Rattle.grammar.proofs.Finishing.{can-of}
+use Rattle.grammar.proofs.Completing.{sheet-goes}
+use Rattle.grammar.proofs.Splicing.{spliced, spliced-before, spliced-runs}
 
-only-sheet : (ts : List Token) (e k : ℕ) (ns : List Node) → Sheeted ts e k ns → OnlySheet (look_in ts e) (rules_to (source_of ts e) k ns)
+pub only-sheet : (ts : List Token) (e k : ℕ) (ns : List Node) → Sheeted ts e k ns → OnlySheet (look_in ts e) (rules_to (source_of ts e) k ns)
 only-sheet ts e k ns h = record {
   derived = sheet-sound (look_in ts e) h.came.0 _ h.last (h.came.1 h.came.0 (omega arith));
   only = λ qs d.
@@ -35,7 +33,7 @@ begun l f k e =
     let d = c.so m (spliced-before k l c.tokens) r.0 r.1 in
     record { tokens = m; same = spliced-before k l c.tokens; sheet = d.0; derived = record { last = r.0; rules = d.1; ends = r.2 } }
 
-no-sheet : (ts : List Token) (e w : ℕ) → Faulted ts e w → NoSheet (look_in ts e) w
+pub no-sheet : (ts : List Token) (e w : ℕ) → Faulted ts e w → NoSheet (look_in ts e) w
 no-sheet ts e w h = record {
   faulty = h.faulty;
   place = h.place;
@@ -48,8 +46,3 @@ no-sheet ts e w h = record {
       let there : sheet_s f m 0 ≡ fault h.faulty = (sheet-good f).same l m 0 (subst (λ a. Seen a l m) (sym here) u) ∙ here in
       no-fault (sym there ∙ c.1 f (omega arith));
 }
-
-pub lawful : (r : Result ℕ Unread) (ts : List Token) (e room : ℕ) (ns : List Node) → Parsed r ts e room ns → Lawful r ts e ns
-lawful (Ok k) ts e room ns h = only-sheet ts e k ns h.said.1
-lawful (Err Full) ts e room ns h = tt
-lawful (Err (Fault w)) ts e room ns h = no-sheet ts e w h.said.1

@@ -9,7 +9,7 @@ use Rattle.grammar.specs.Raw as raw
 use Rattle.grammar.specs.Parsers.{Look, is_a, Ans, done, fault, spent, P, then, give, seq, wanted, chain}
 use Rattle.grammar.specs.Sheets.{sum_sign, compares, quantity, item_s, item_on, side_s, condition_s, condition_on, conditions_s, optional_s, param_s, param_on, params_s, expr_by, arg_on, args_by, name_by, bracket_by, atom_by, expr_s, sum_s, sum_from_s, product_s, product_from_s, args_s, args_from_s, atom_s, rule_s, rule_on, sheet_s}
 use Rattle.grammar.specs.Held.{Comes}
-use Rattle.syntax.specs.Derives.{Is, DItem, item-numeral, item-plain, item-times, DSide, side-first, side-more, DCondition, condition, DConditions, conditions-first, conditions-more, DParam, param-number, param-list, DParams, params-first, params_more, DHead, head-none, head-some, Level, expr, sum, product, atom, Derives, at-numeral, at_name, at_read, at-call-none, at_call, at-nest, at-claim, product-one, product-more, sum_one, sum_more, expr-sum, expr-let, expr-if, expr-put, DArgs, args-first, args_more, DOptional, absent, present, DRule, rule, DRules, rules-none, rules-more, DSheet}
+use Rattle.grammar.specs.Derives.{Is, DItem, item-numeral, item-plain, item-times, DSide, side-first, side-more, DCondition, condition, DConditions, conditions-first, conditions-more, DParam, param-number, param-list, DParams, params-first, params_more, DHead, head-none, head-some, Level, expr, sum, product, atom, Derives, at-numeral, at_name, at_read, at-call-none, at_call, at-nest, at-claim, product-one, product-more, sum_one, sum_more, expr-sum, expr-let, expr-if, expr-put, DArgs, args-first, args_more, DOptional, absent, present, DRule, rule, DRules, rules-none, rules-more, DSheet}
 use Rattle.grammar.proofs.Loops.{chain-chained}
 use Rattle.grammar.proofs.Levels.{sum-chained, product-chained, args-chained}
 use Rattle.grammar.proofs.Comings.{deeper, given, seq-comes, next-comes, yes-comes, no-comes, want-comes, turn-comes, turn-ends}

@@ -2,7 +2,7 @@
 use Rattle.std.proofs.Common.{◌≡◌, ℕ, zero, suc, ◌≤◌, Bool, true, false, cond, List, [], ◌∷◌, ◌++◌, sym, refl, ap, ◌∙◌, subst, arith}
 use Rattle.letters.specs.declared.token.Token.{Token}
 use Rattle.grammar.specs.Parsers.{Look, Ans, done, fault, spent, P, then, give, stop, out, next, seq, when, wanted, turn, chain}
-use Rattle.syntax.specs.Derives.{Before}
+use Rattle.grammar.specs.Derives.{Before}
 
 -- what is derived of tokens up to a position, and of tokens from one position to another
 abbrev pub Fact : Type 1

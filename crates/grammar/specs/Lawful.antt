@@ -8,7 +8,7 @@ use Rattle.grammar.specs.Raw.{Sheet}
 use Rattle.grammar.specs.Parsers.{Look, look_in}
 use Rattle.grammar.specs.Trees.{rules_to}
 use Rattle.grammar.specs.Parsed.{source_of}
-use Rattle.syntax.specs.Derives.{DSheet, Upto, Before}
+use Rattle.grammar.specs.Derives.{DSheet, Upto, Before}
 
 -- the tokens derive this sheet and no other
 pub record OnlySheet (l : Look) (rs : Sheet) : Type 0 where

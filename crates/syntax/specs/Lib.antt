@@ -1,3 +1,0 @@
-pub mod Derives
-pub mod Lawful
-pub mod Weights
