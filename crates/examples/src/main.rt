@@ -52,7 +52,28 @@ fn show_refused(
     Ok(same)
 }
 
-fn run(rt: &HostRuntime) -> anyhow::Result<()> {
+fn all_as_they_must(wrong: u32) -> anyhow::Result<()> {
+    if wrong > 0 {
+        return Err(anyhow!("some example does not give what it must"));
+    }
+    Ok(())
+}
+
+fn run_questions(rt: &HostRuntime) -> anyhow::Result<()> {
+    let mut wrong = 0u32;
+    for example in EXAMPLES {
+        if !show(rt, example)? {
+            wrong = wrong.saturating_add(1);
+        }
+    }
+    all_as_they_must(wrong)?;
+    table_stands();
+    let n = EXAMPLES.len();
+    println!(rt; "{n} examples; these and the worked sheets are theorems about the definitions")?;
+    Ok(())
+}
+
+fn run_refused(rt: &HostRuntime) -> anyhow::Result<()> {
     let mut wrong = 0u32;
     let mut records = vec![in rt.alloc(); Record::zero(); LEAST_RECORDS]?;
     for example in REFUSED {
@@ -60,20 +81,10 @@ fn run(rt: &HostRuntime) -> anyhow::Result<()> {
             wrong = wrong.saturating_add(1);
         }
     }
-    for example in EXAMPLES {
-        if !show(rt, example)? {
-            wrong = wrong.saturating_add(1);
-        }
-    }
-    if wrong > 0 {
-        return Err(anyhow!("some example does not give what it must"));
-    }
-    table_stands();
-    let n = EXAMPLES.len();
-    println!(rt; "{n} questions; these and the worked sheets are theorems about the definitions")?;
-    Ok(())
+    all_as_they_must(wrong)
 }
 
 fn main(rt: HostRuntime) -> anyhow::Result<()> {
-    run(&rt)
+    run_questions(&rt)?;
+    run_refused(&rt)
 }
