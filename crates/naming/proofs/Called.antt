@@ -1,5 +1,5 @@
 -- Looking for a rule by its name.
-use Rattle.std.proofs.Common.{◌≡◌, ℕ, zero, suc, ◌+◌, ◌<◌, ◌≤◌, Bool, true, false, cond, eqb, List, [], ◌∷◌, ◌++◌, length, drop, is_some, Some, None, Option, sym, refl, ap, ◌∙◌, inl, inr, arith, eq-eqb, ne_eqb}
+use Rattle.std.proofs.Common.{◌≡◌, ℕ, zero, suc, ◌+◌, ◌≤◌, Bool, true, false, cond, eqb, List, [], ◌∷◌, ◌++◌, length, drop, is_some, Some, None, Option, refl, ap, ◌∙◌, inl, inr, arith, eq-eqb}
 use Rattle.std.proofs.lemmas.Bool.{cases_lt}
 use Rattle.std.specs.List.{slice_get}
 use Rattle.letters.specs.declared.token.Token.{Token}
@@ -8,8 +8,8 @@ use Rattle.grammar.specs.declared.node.Node.{Node}
 use Rattle.grammar.specs.Raw as Raw
 use Rattle.grammar.specs.Trees.{Source, raw_at, rule_in, rules_to}
 use Rattle.naming.specs.Calls.{named, arg_fault}
-use Rattle.naming.specs.Faults.{params_of, call_faults, arg_faults, length_at}
-use Rattle.naming.specs.Least.{merged, least}
+use Rattle.naming.specs.Faults.{params_of, call_faults, arg_faults}
+use Rattle.naming.specs.Least.{least}
 use Rattle.naming.specs.Scopes as Scopes
 use Rattle.naming.specs.Scopes.{Sheet, next}
 

@@ -1,11 +1,10 @@
 -- What is joined, as a list of what is read one after another.
-use Rattle.std.proofs.Common.{◌≡◌, ℕ, zero, suc, ◌≤◌, Bool, true, false, cond, List, [], ◌∷◌, ◌++◌, length, sym, refl, ap, ◌∙◌}
-use Rattle.std.proofs.lemmas.List.{append-nil, append_assoc, get_or_past}
+use Rattle.std.proofs.Common.{◌≡◌, ℕ, zero, suc, Bool, true, false, cond, List, [], ◌∷◌, ◌++◌, sym, refl, ap, ◌∙◌}
+use Rattle.std.proofs.lemmas.List.{append-nil, append_assoc}
 use Rattle.letters.specs.declared.token.Token.{Token}
-use Rattle.letters.specs.declared.kind.Kind.TheVariants.{Comma, Close, OpenSquare}
-use Rattle.grammar.specs.Raw as Raw
-use Rattle.grammar.specs.Parsers.{Look, is_a, look_in}
-use Rattle.grammar.specs.Stretches.{Past, past, joined, param_at, param_after, params_at}
+use Rattle.letters.specs.declared.kind.Kind.TheVariants.{Comma, Close}
+use Rattle.grammar.specs.Parsers.{Look, is_a}
+use Rattle.grammar.specs.Stretches.{Past, past, joined, param_at, params_at}
 use Rattle.naming.specs.Stretching.{Reader, rest, end, params}
 
 abbrev pub after : {X : Type 0} → Reader X → List X → Token → ℕ → Past (List X)

@@ -1,5 +1,5 @@
 -- The faults of one rule after another.
-use Rattle.std.proofs.Common.{◌≡◌, ℕ, suc, ◌+◌, Bool, cond, List, [], ◌∷◌, ◌++◌, is_some, Some, None, Option, sym, refl, ap, ◌∙◌, arith}
+use Rattle.std.proofs.Common.{◌≡◌, ℕ, suc, ◌+◌, cond, List, [], ◌∷◌, ◌++◌, is_some, None, Option, sym, refl, ap, ◌∙◌, arith}
 use Rattle.std.proofs.lemmas.List.{append-nil, append_assoc}
 use Rattle.std.specs.List.{slice_get}
 use Rattle.grammar.specs.declared.node.Node.{Node}
@@ -9,7 +9,7 @@ use Rattle.naming.specs.Faults.{head_faults, condition_faults, expr_faults, rule
 use Rattle.naming.specs.Least.{merged, least}
 use Rattle.naming.specs.Scopes as Scopes
 use Rattle.naming.specs.Scopes.{Scope, Sheet, empty, head_scope}
-use Rattle.naming.proofs.Smallest.{merged-assoc, least-append, least-both}
+use Rattle.naming.proofs.Smallest.{least-both}
 
 rules-append : (S : Sheet) (before xs ys : List Raw.Rule) → rules_faults S before (xs ++ ys) ≡ rules_faults S before xs ++ rules_faults S (before ++ xs) ys
 unfolding rules_faults

@@ -1,5 +1,5 @@
 -- Looking for a name.
-use Rattle.std.proofs.Common.{◌≡◌, ℕ, Bool, true, false, cond, ◌||◌, List, [], ◌∷◌, ◌++◌, is_some, Some, None, Option, sym, refl, ap, ◌∙◌, arith}
+use Rattle.std.proofs.Common.{◌≡◌, ℕ, Bool, true, false, cond, ◌||◌, List, [], ◌∷◌, is_some, Some, None, Option, refl, ap, ◌∙◌, arith}
 use Rattle.letters.specs.declared.token.Token.{Token}
 use Rattle.letters.specs.Tokens.{same_name}
 use Rattle.naming.specs.Faults.{found}

@@ -1,6 +1,6 @@
 -- The smallest of places taken together.
 use Rattle.std.proofs.Common.{◌≡◌, ℕ, min, List, [], ◌∷◌, ◌++◌, Some, None, Option, sym, refl, ap, ◌∙◌, arith}
-use Rattle.naming.specs.Least.{smaller, merged, least}
+use Rattle.naming.specs.Least.{merged, least}
 
 pub merged-none : (a : Option ℕ) → merged a None ≡ a
 merged-none None = refl

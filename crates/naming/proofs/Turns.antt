@@ -1,9 +1,9 @@
 -- The smallest place of what is joined, turn by turn.
-use Rattle.std.proofs.Common.{◌≡◌, ℕ, zero, suc, ◌+◌, ◌-◌, ◌<◌, ◌≤◌, Bool, true, false, cond, List, [], ◌∷◌, ◌++◌, length, Some, None, Option, sym, refl, ap, ◌∙◌, inl, inr, arith}
+use Rattle.std.proofs.Common.{◌≡◌, ℕ, zero, suc, ◌+◌, ◌-◌, ◌<◌, ◌≤◌, Bool, true, false, cond, List, [], ◌∷◌, ◌++◌, length, None, Option, sym, refl, ap, ◌∙◌, inl, inr, arith}
 use Rattle.std.proofs.lemmas.List.{get_or_past}
 use Rattle.std.proofs.lemmas.Bool.{cases_lt}
 use Rattle.letters.specs.declared.kind.Kind.{Kind}
-use Rattle.letters.specs.declared.kind.Kind.TheVariants.{Comma, Minus, End, Name, Numeral}
+use Rattle.letters.specs.declared.kind.Kind.TheVariants.{Comma, Minus, End}
 use Rattle.letters.specs.declared.token.Token.{Token}
 use Rattle.letters.specs.Kinds.{same_kind}
 use Rattle.letters.specs.Tokens.{token_of}

@@ -1,5 +1,5 @@
 -- How the faults of parts come together.
-use Rattle.std.proofs.Common.{◌≡◌, ℕ, ◌+◌, Bool, List, [], ◌∷◌, ◌++◌, length, take, drop, is_some, Some, None, Option, sym, refl, ap, ◌∙◌}
+use Rattle.std.proofs.Common.{◌≡◌, ℕ, ◌+◌, List, [], ◌∷◌, ◌++◌, length, take, drop, is_some, Some, None, Option, sym, refl, ap, ◌∙◌}
 use Rattle.std.proofs.lemmas.List.{take_at, drop-drop}
 use Rattle.std.specs.List.{slice_get}
 use Rattle.letters.specs.declared.token.Token.{Token}
@@ -11,9 +11,9 @@ use Rattle.pile.specs.declared.Pile.{Pile}
 use Rattle.pile.specs.Entries.{entries, room}
 use Rattle.naming.specs.declared.written.Written.{Written}
 use Rattle.naming.specs.Calls.{arg_fault}
-use Rattle.naming.specs.Faults.{expr_faults, args_faults, arg_faults, length_at, place_of, bare_list, count_args}
+use Rattle.naming.specs.Faults.{expr_faults, args_faults, arg_faults, length_at}
 use Rattle.naming.specs.Least.{merged, least}
-use Rattle.naming.specs.Reaches.{Went, tokens_of, scope_of, sheet_of}
+use Rattle.naming.specs.Reaches.{Went, scope_of, sheet_of}
 use Rattle.naming.specs.Scopes.{Scope, naming}
 use Rattle.naming.specs.Sources.{source_of, node_in}
 use Rattle.naming.specs.Walks.{head_params, expr_at, arguments_at}

@@ -1,5 +1,5 @@
 -- The faults of names, by their places: unknown, declared twice, of the wrong sort, or with a wrong number of arguments.
-use Rattle.std.specs.Prelude.{ℕ, ◌+◌, Bool, true, false, cond, List, [], ◌∷◌, ◌++◌, length, is_some, Some, None, Option, ◌==◌}
+use Rattle.std.specs.Prelude.{ℕ, ◌+◌, cond, List, [], ◌∷◌, ◌++◌, length, is_some, Some, None, Option, ◌==◌}
 use Rattle.std.specs.List.{slice_get}
 use Rattle.letters.specs.declared.kind.Kind.TheVariants.{Name}
 use Rattle.letters.specs.declared.token.Token.{Token}

@@ -6,3 +6,5 @@ pub mod Reaches
 pub mod Faults
 pub mod Calls
 pub mod Walks
+pub mod Resolving
+pub mod Counts

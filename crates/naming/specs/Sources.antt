@@ -1,5 +1,5 @@
 -- What a sheet's tokens and nodes stand for.
-use Rattle.std.specs.Prelude.{ℕ, cond, List, length, take, Some, None, Option, nat_lt}
+use Rattle.std.specs.Prelude.{ℕ, cond, List, length, take, None, Option, nat_lt}
 use Rattle.std.specs.List.{slice_get}
 use Rattle.letters.specs.declared.token.Token.{Token}
 use Rattle.grammar.specs.declared.node.Node.{Node}

@@ -1,5 +1,5 @@
 -- Stretches of tokens as lists: what is joined, one after another.
-use Rattle.std.specs.Prelude.{ℕ, zero, suc, Bool, cond, List, [], ◌∷◌, ◌++◌, Some, None, Option}
+use Rattle.std.specs.Prelude.{ℕ, zero, suc, Bool, cond, List, [], ◌∷◌, Some, None, Option}
 use Rattle.letters.specs.declared.kind.Kind.TheVariants.{Comma, Minus}
 use Rattle.letters.specs.declared.token.Token.{Token}
 use Rattle.grammar.specs.Raw as Raw

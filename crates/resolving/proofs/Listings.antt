@@ -21,8 +21,8 @@ use Rattle.records.specs.Tables.{stretch, item_of, side_in, condition_in}
 use Rattle.records.specs.Standing.{SidesIn}
 use Rattle.records.proofs.Stretches.{stays}
 use Rattle.records.proofs.Standing.{more-more, conditions-stay, longer, sides-in}
-use Rattle.resolving.specs.Resolving as Resolving
-use Rattle.resolving.specs.Resolving.{side_place, item_place}
+use Rattle.naming.specs.Resolving as Resolving
+use Rattle.naming.specs.Resolving.{side_place, item_place}
 use Rattle.resolving.specs.Making.{Added, Listing, Formed}
 
 -- what was added is a stretch of the table

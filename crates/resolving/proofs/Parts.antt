@@ -14,7 +14,7 @@ use Rattle.letters.specs.declared.kind.Kind.TheVariants.{End}
 use Rattle.letters.specs.Tokens.{token_of, same_name}
 use Rattle.std.proofs.lemmas.List.{length-map}
 use Rattle.std.proofs.lemmas.List.Sums.{sum_by-cons}
-use Rattle.resolving.specs.Resolving.{slot_of, condition_of, conditions_of}
+use Rattle.naming.specs.Resolving.{slot_of, condition_of, conditions_of}
 use Rattle.records.specs.Columns.{Columns}
 use Rattle.resolving.specs.Growing.{Roomy, ExprMade}
 

@@ -12,7 +12,8 @@ use Rattle.language.specs.Tree as Tree
 use Rattle.records.specs.declared.node.Node.TheVariants.{Num, Name, Calc, Read, Call, Bind, Test, Put, Claim, End, Value, Lent}
 use Rattle.records.specs.Standing.{Listed, num, name, calc, read, call, bind, test, put, claim, end, value, lent}
 use Rattle.records.specs.Counting.{up_to, exprs_up_to, args_up_to, claims_up_to, claims_in, conditions_up_to}
-use Rattle.resolving.specs.Resolving.{slot_of, operator_of, comparison_of, conditions_of, arg_of, expr_of, args_of}
+use Rattle.naming.specs.Resolving.{slot_of, operator_of, comparison_of, conditions_of}
+use Rattle.resolving.specs.Resolving.{arg_of, expr_of, args_of}
 use Rattle.records.proofs.Standing.{wider}
 use Rattle.records.specs.Columns.{Columns, tables_by}
 use Rattle.resolving.specs.Growing.{added, Made, ExprAt, ArgsAt, ExprMade, ArgsMade}

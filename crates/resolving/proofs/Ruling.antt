@@ -13,7 +13,8 @@ use Rattle.records.specs.Tables as Tables
 use Rattle.records.specs.Standing.{Listed}
 use Rattle.records.specs.Rules.{RulesStand}
 use Rattle.records.specs.Counting.{conditions_up_to}
-use Rattle.resolving.specs.Resolving.{conditions_of, param_of, rule_of}
+use Rattle.naming.specs.Resolving.{conditions_of, param_of}
+use Rattle.resolving.specs.Resolving.{rule_of}
 use Rattle.records.specs.Columns.{Column, Columns, pushed, tables_by}
 use Rattle.resolving.specs.Making.{Added, Listing, ConditionsAlone, ParamsAlone}
 use Rattle.resolving.specs.Growing.{Roomy, Made, ExprMade}

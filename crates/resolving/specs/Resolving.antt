@@ -1,66 +1,11 @@
--- The tree of a sheet with its names resolved: what a written sheet stands for.
-use Rattle.std.specs.Prelude.{ℕ, Bool, true, false, cond, List, [], ◌∷◌, map, ℤ, pos, neg_ℤ, Some, None, Option}
-use Rattle.std.specs.Option.{unwrap_or}
-use Rattle.letters.specs.declared.kind.Kind.{Kind}
-use Rattle.letters.specs.declared.kind.Kind.TheVariants as Kinds
-use Rattle.letters.specs.declared.token.Token.{Token}
-use Rattle.letters.specs.Kinds.{same_kind}
+-- The tree of a sheet with its names resolved, by its text alone: an argument is lent where it is the bare name of a list. Where there is no fault of names, that is where the callee has a list.
+use Rattle.std.specs.Prelude.{ℕ, List, map, Some, None, Option}
 use Rattle.grammar.specs.Raw as Raw
 use Rattle.grammar.specs.Raw.{num, name, calc, read, call, bind, test, put, claim, nest, none, more}
-use Rattle.language.specs.declared.sign.Operator.{Operator}
-use Rattle.language.specs.declared.sign.Operator.TheVariants.{Sum, Difference, Product}
-use Rattle.language.specs.declared.sign.Comparison.{Comparison}
-use Rattle.language.specs.declared.sign.Comparison.TheVariants.{Less, LessOrEqual, Equal, NotEqual}
 use Rattle.language.specs.Tree as Tree
 use Rattle.naming.specs.Scopes.{Scope, Sheet, slot_in, rule_in, naming, empty, head_scope}
 use Rattle.naming.specs.Faults.{bare_list}
-
--- A name that is not found has slot 0; a sheet with such a name is refused.
-abbrev pub slot_of : Option ℕ → ℕ
-slot_of o = unwrap_or o 0
-
-abbrev pub operator_of : Kind → Operator
-operator_of k = cond (same_kind k Kinds.Plus) Sum (cond (same_kind k Kinds.Minus) Difference Product)
-
-abbrev pub comparison_of : Kind → Comparison
-comparison_of k = cond (same_kind k Kinds.Less) Less (cond (same_kind k Kinds.AtMost) LessOrEqual (cond (same_kind k Kinds.Equal) Equal NotEqual))
-
-abbrev pub signed : Bool → ℤ → ℤ
-signed true z = neg_ℤ z
-signed false z = z
-
--- a numeral is so many times one
-abbrev pub atom_of : List ℕ → Scope → Token → Tree.Atom
-atom_of text Γ t = cond (same_kind t.kind Kinds.Name) (Tree.named (slot_of (slot_in text Γ.names t))) (cond (same_kind t.kind Kinds.TheResult) Tree.result Tree.one)
-
-abbrev pub factor_of : Option Token → Token → ℕ
-factor_of (Some f) t = f.value
-factor_of None t = cond (same_kind t.kind Kinds.Numeral) t.value 1
-
-abbrev pub item_of : List ℕ → Scope → Raw.Item → Tree.Item
-item_of text Γ i = record { factor = signed i.minus (pos (factor_of i.factor i.atom)); atom = atom_of text Γ i.atom }
-
--- a condition's place is the first byte of its first item
-abbrev pub item_place : Raw.Item → ℕ
-item_place i = elim i.factor [ Some f ↦ f.place | None ↦ i.atom.place ]
-
-abbrev pub side_place : Raw.Side → ℕ
-side_place [] = 0
-side_place (i ∷ is) = item_place i
-
-abbrev pub condition_of : List ℕ → Scope → Raw.Condition → Tree.Condition
-condition_of text Γ c = record {
-  place = side_place c.left;
-  left = map (item_of text Γ) c.left;
-  comparison = comparison_of c.comparison.kind;
-  right = map (item_of text Γ) c.right;
-}
-
-abbrev pub conditions_of : List ℕ → Scope → List Raw.Condition → List Tree.Condition
-conditions_of text Γ cs = map (condition_of text Γ) cs
-
-abbrev pub site_of : List ℕ → Scope → Token → Tree.Site
-site_of text Γ t = record { place = t.place; number = 0; list = slot_of (slot_in text Γ.lists t) }
+use Rattle.naming.specs.Resolving.{slot_of, operator_of, comparison_of, conditions_of, site_of, param_of}
 
 -- an argument before the others: the bare name of a list lends it, by its slot
 abbrev pub arg_of : Option ℕ → Tree.Expr → Tree.Args → Tree.Args
@@ -84,9 +29,6 @@ unfoldable mutual
   pub args_of : Sheet → Scope → Raw.Args → Tree.Args → Tree.Args
   args_of S Γ none after = after
   args_of S Γ (more es e) after = args_of S Γ es (arg_of (bare_list S.text Γ.lists e) (expr_of S Γ e) after)
-
-abbrev pub param_of : Raw.Param → Tree.Param
-param_of p = elim p.length [ None ↦ Tree.a_number | Some n ↦ Tree.a_list ]
 
 abbrev pub rule_of : Sheet → Raw.Rule → Tree.Rule
 rule_of S r =

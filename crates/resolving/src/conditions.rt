@@ -7,7 +7,7 @@ ghost use Rattle.records.specs.Laying.{columns_of};
 ghost use Rattle.naming.specs.Reaches.{scope_of};
 ghost use Rattle.naming.specs.Sources.{source_of};
 ghost use Rattle.records.specs.Tables as lists;
-ghost use Rattle.resolving.specs.Resolving.{signed, factor_of, atom_of, item_of, condition_of, conditions_of};
+ghost use Rattle.naming.specs.Resolving.{signed, factor_of, atom_of, item_of, condition_of, conditions_of};
 ghost use Rattle.resolving.specs.Making.{Fit, Added, Listing, Formed, ItemsAlone, ConditionsAlone};
 ghost use Rattle.grammar.specs.Weights.{condition_weight, conditions_weight};
 

@@ -5,7 +5,7 @@ ghost use Rattle.naming.specs.Sources.{source_of};
 ghost use Rattle.naming.specs.Stretching.{left, written};
 ghost use Rattle.records.specs.Tables as lists;
 ghost use Rattle.resolving.specs.Making.{Added, ParamsAlone};
-ghost use Rattle.resolving.specs.Resolving.{param_of};
+ghost use Rattle.naming.specs.Resolving.{param_of};
 
 use naming::{Head, Param as Declared, Written};
 use records::{Laid, Param, Stretch};

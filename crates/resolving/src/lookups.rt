@@ -1,7 +1,7 @@
 ghost use Rattle.std.specs.Prelude.{◌≡◌};
 ghost use Rattle.naming.specs.Reaches.{tokens_of};
 ghost use Rattle.naming.specs.Scopes.{slot_in};
-ghost use Rattle.resolving.specs.Resolving.{slot_of};
+ghost use Rattle.naming.specs.Resolving.{slot_of};
 
 use letters::{Token, same_name};
 use naming::Written;

@@ -1,5 +1,5 @@
 ghost use Rattle.std.specs.Prelude.{◌≡◌};
-ghost use Rattle.resolving.specs.Resolving.{operator_of, comparison_of};
+ghost use Rattle.naming.specs.Resolving.{operator_of, comparison_of};
 
 use language::{Comparison, Operator};
 use letters::Kind;

@@ -1,4 +1,4 @@
-use Rattle.std.proofs.Common.{◌≡◌, take, ap, ◌∙◌, arith}
+use Rattle.std.proofs.Common.{take, ap, ◌∙◌, arith}
 use Rattle.naming.proofs.Begins.{take_min}
 use Rattle.naming.proofs.reading.front.Goals as goal
 

@@ -7,7 +7,7 @@ use Rattle.records.specs.Laying.{columns_of}
 use Rattle.naming.specs.Reaches.{scope_of}
 use Rattle.naming.specs.Sources.{source_of}
 use Rattle.records.specs.Tables as lists
-use Rattle.resolving.specs.Resolving.{item_of, comparison_of}
+use Rattle.naming.specs.Resolving.{item_of, comparison_of}
 use Rattle.resolving.specs.Making.{Added}
 use Rattle.resolving.proofs.Adding.{size}
 use Rattle.resolving.proofs.Listings.{side-place, formed}

@@ -14,7 +14,7 @@ use Rattle.naming.specs.Stretching as Stretching
 use Rattle.naming.proofs.Begins.{comma-stands}
 use Rattle.naming.proofs.Joins.{rest-none, rest_out}
 use Rattle.naming.proofs.Turns.{conditions-list}
-use Rattle.resolving.specs.Resolving.{condition_of}
+use Rattle.naming.specs.Resolving.{condition_of}
 use Rattle.resolving.proofs.Listings.{under_none, under-turn, under_all, under-in, clamped}
 use Rattle.resolving.proofs.Rests.{rest_more}
 use Rattle.records.specs.declared.condition.Condition.{Condition as Listed}

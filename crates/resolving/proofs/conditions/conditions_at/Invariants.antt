@@ -5,7 +5,7 @@ use Rattle.records.specs.Laying.{columns_of}
 use Rattle.naming.specs.Reaches.{scope_of}
 use Rattle.naming.specs.Sources.{source_of}
 use Rattle.naming.specs.Stretching as Stretching
-use Rattle.resolving.specs.Resolving.{condition_of}
+use Rattle.naming.specs.Resolving.{condition_of}
 use Rattle.resolving.proofs.Listings.{Under}
 use Rattle.resolving.specs.Making.{ConditionsAlone}
 use Rattle.resolving.proofs.conditions.conditions_at.Given as goal

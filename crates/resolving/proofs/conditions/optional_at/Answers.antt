@@ -7,7 +7,7 @@ use Rattle.records.specs.Laying.{columns_of}
 use Rattle.naming.specs.Reaches.{scope_of}
 use Rattle.naming.specs.Sources.{source_of}
 use Rattle.naming.proofs.Begins.{stands}
-use Rattle.resolving.specs.Resolving.{conditions_of}
+use Rattle.naming.specs.Resolving.{conditions_of}
 use Rattle.resolving.specs.Making.{Listing}
 use Rattle.resolving.proofs.Listings.{listing_none}
 use Rattle.resolving.proofs.Alone.{conditions_none}

@@ -13,7 +13,7 @@ use Rattle.naming.specs.Stretching.{items, items_end}
 use Rattle.naming.proofs.Joins.{rest-none, rest_out}
 use Rattle.naming.proofs.Turns.{side-list, side-end, end_more, end_none, end-out, sign-stands}
 use Rattle.records.specs.Tables as lists
-use Rattle.resolving.specs.Resolving.{item_of}
+use Rattle.naming.specs.Resolving.{item_of}
 use Rattle.resolving.proofs.Adding.{begun, turn, whole, onto}
 use Rattle.resolving.proofs.Rests.{rest_more}
 use Rattle.records.specs.Columns.{Columns}

@@ -5,7 +5,7 @@ use Rattle.naming.specs.Reaches.{scope_of}
 use Rattle.naming.specs.Sources.{source_of}
 use Rattle.naming.specs.Stretching.{items, items_end}
 use Rattle.records.specs.Tables as lists
-use Rattle.resolving.specs.Resolving.{item_of}
+use Rattle.naming.specs.Resolving.{item_of}
 use Rattle.resolving.proofs.Adding.{Adding}
 use Rattle.resolving.specs.Making.{ItemsAlone}
 use Rattle.resolving.proofs.conditions.side_at.Given as goal

@@ -13,7 +13,7 @@ use Rattle.naming.specs.Scopes.{Scope, slot_in, naming}
 use Rattle.naming.specs.Sources.{source_of, rules_of}
 use Rattle.naming.proofs.Grown.{args_more, args_none}
 use Rattle.naming.proofs.Scoping.{name-pushed}
-use Rattle.resolving.specs.Resolving.{slot_of, operator_of, comparison_of, conditions_of}
+use Rattle.naming.specs.Resolving.{slot_of, operator_of, comparison_of, conditions_of}
 use Rattle.language.specs.Tree as Tree
 use Rattle.resolving.specs.Making.{Listing}
 use Rattle.resolving.proofs.Adding.{pushed}

@@ -5,7 +5,7 @@ use Rattle.records.specs.Laying.{columns_of}
 use Rattle.naming.specs.Sources.{source_of}
 use Rattle.naming.specs.Stretching.{written}
 use Rattle.records.specs.Tables as lists
-use Rattle.resolving.specs.Resolving.{param_of}
+use Rattle.naming.specs.Resolving.{param_of}
 use Rattle.resolving.proofs.Adding.{begun, turn, whole}
 use Rattle.records.specs.Columns.{Columns}
 use Rattle.resolving.proofs.Alone.{param_taken, param_alone, params_then, params_none}

@@ -4,7 +4,7 @@ use Rattle.records.specs.Laying.{columns_of}
 use Rattle.naming.specs.Sources.{source_of}
 use Rattle.naming.specs.Stretching.{left}
 use Rattle.records.specs.Tables as lists
-use Rattle.resolving.specs.Resolving.{param_of}
+use Rattle.naming.specs.Resolving.{param_of}
 use Rattle.resolving.proofs.Adding.{Adding}
 use Rattle.resolving.specs.Making.{ParamsAlone}
 use Rattle.resolving.proofs.heads.params_at.Given as goal

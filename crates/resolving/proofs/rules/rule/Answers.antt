@@ -13,7 +13,7 @@ use Rattle.naming.specs.Stretching.{left}
 use Rattle.naming.proofs.Begins.{length-left}
 use Rattle.records.specs.Tables as Tables
 use Rattle.records.specs.Laying.{columns_of}
-use Rattle.resolving.specs.Resolving.{conditions_of, param_of}
+use Rattle.naming.specs.Resolving.{conditions_of, param_of}
 use Rattle.resolving.specs.Making.{Added, Listing}
 use Rattle.resolving.specs.Growing.{ExprMade}
 use Rattle.resolving.specs.Ruling.{rule_by}

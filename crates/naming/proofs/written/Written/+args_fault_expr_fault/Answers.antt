@@ -1,8 +1,8 @@
 -- Each return is one way through the tree: what was looked at before it, call by call.
-use Rattle.std.proofs.Common.{◌≡◌, ℕ, ◌+◌, ◌<◌, List, [], length, drop, is_some, Some, None, sym, refl, ap, ◌∙◌, inl, inr, arith}
+use Rattle.std.proofs.Common.{◌≡◌, ℕ, ◌<◌, List, [], length, drop, is_some, Some, None, sym, refl, ap, ◌∙◌, inl, inr, arith}
 use Rattle.std.proofs.lemmas.List.{length_push}
 use Rattle.letters.specs.declared.token.Token.{Token}
-use Rattle.grammar.specs.Raw.{none, more}
+use Rattle.grammar.specs.Raw.{none}
 use Rattle.grammar.specs.Stretches.{conditions_at}
 use Rattle.grammar.specs.declared.node.Node.{Node}
 use Rattle.grammar.specs.Trees.{look_of, grown, part_in, raw_at, args_at}

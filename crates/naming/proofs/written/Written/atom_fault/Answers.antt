@@ -1,4 +1,4 @@
-use Rattle.std.proofs.Common.{◌≡◌, sym, ap, ◌∙◌}
+use Rattle.std.proofs.Common.{sym, ap, ◌∙◌}
 use Rattle.letters.specs.declared.kind.Kind.TheVariants.{Name}
 use Rattle.grammar.specs.Parsers.{is_a}
 use Rattle.naming.proofs.Slots.{least-else}

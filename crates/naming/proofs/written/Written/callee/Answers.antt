@@ -1,4 +1,4 @@
-use Rattle.std.proofs.Common.{◌≡◌, length, sym, ap, ◌∙◌, ne_eqb}
+use Rattle.std.proofs.Common.{length, sym, ap, ◌∙◌, ne_eqb}
 use Rattle.grammar.specs.Trees.{args_at}
 use Rattle.naming.specs.Calls.{called}
 use Rattle.naming.specs.Faults.{call_faults, count_args}

@@ -1,4 +1,4 @@
-use Rattle.std.proofs.Common.{◌≡◌, suc, ◌+◌, length, sym, ap, ◌∙◌, arith}
+use Rattle.std.proofs.Common.{◌≡◌, suc, ◌+◌, length, ap, ◌∙◌, arith}
 use Rattle.grammar.specs.Stretches.{side_at}
 use Rattle.grammar.specs.Trees.{look_of}
 use Rattle.naming.specs.Faults.{side_faults}

@@ -1,6 +1,5 @@
-use Rattle.std.proofs.Common.{◌≡◌, ◌+◌, length, sym, ap, ◌∙◌, arith}
+use Rattle.std.proofs.Common.{length, sym, ap, ◌∙◌, arith}
 use Rattle.letters.specs.declared.kind.Kind.TheVariants.{Comma}
-use Rattle.letters.specs.Kinds.{same_kind}
 use Rattle.grammar.specs.Parsers.{is_a}
 use Rattle.grammar.specs.Stretches.{condition_at}
 use Rattle.grammar.specs.Trees.{look_of}

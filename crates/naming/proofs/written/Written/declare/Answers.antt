@@ -1,4 +1,4 @@
-use Rattle.std.proofs.Common.{◌≡◌, length, sym, ap, ◌∙◌, arith}
+use Rattle.std.proofs.Common.{length, ap, ◌∙◌, arith}
 use Rattle.pile.specs.Entries.{entries}
 use Rattle.grammar.specs.Trees.{look_of}
 use Rattle.naming.specs.Reaches.{scope_of}

@@ -1,4 +1,4 @@
-use Rattle.std.proofs.Common.{◌≡◌, sym, ◌∙◌}
+use Rattle.std.proofs.Common.{sym}
 use Rattle.naming.proofs.Slots.{known-first, known-second, known-neither}
 use Rattle.naming.proofs.written.Written.declared.Goals as goal
 

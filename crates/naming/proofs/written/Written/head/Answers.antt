@@ -1,4 +1,4 @@
-use Rattle.std.proofs.Common.{◌≡◌, not, length, sym, ap, ◌∙◌}
+use Rattle.std.proofs.Common.{not, length, ap, ◌∙◌}
 use Rattle.letters.specs.declared.kind.Kind.TheVariants.{Close}
 use Rattle.grammar.specs.Parsers.{is_a}
 use Rattle.grammar.specs.Trees.{look_of}

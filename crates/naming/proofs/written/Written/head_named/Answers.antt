@@ -1,4 +1,4 @@
-use Rattle.std.proofs.Common.{◌≡◌, sym, ap, ◌∙◌}
+use Rattle.std.proofs.Common.{sym, ap, ◌∙◌}
 use Rattle.letters.specs.Tokens.{same_name}
 use Rattle.naming.specs.Calls.{named, head_at}
 use Rattle.naming.specs.Sources.{source_of}

@@ -1,4 +1,4 @@
-use Rattle.std.proofs.Common.{◌≡◌, is_some, sym, ap, ◌∙◌}
+use Rattle.std.proofs.Common.{is_some, sym, ap, ◌∙◌}
 use Rattle.naming.specs.Reaches.{among, tokens_of}
 use Rattle.naming.specs.Sources.{source_of}
 use Rattle.naming.proofs.Grown.{bare-name, bare-other}

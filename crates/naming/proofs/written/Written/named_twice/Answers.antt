@@ -1,4 +1,4 @@
-use Rattle.std.proofs.Common.{◌≡◌, is_some, sym, ap, ◌∙◌}
+use Rattle.std.proofs.Common.{is_some, ap, ◌∙◌}
 use Rattle.naming.specs.Sources.{source_of}
 use Rattle.grammar.specs.Trees.{rules_to}
 use Rattle.naming.proofs.Called.{is-named}

@@ -1,6 +1,3 @@
-use Rattle.std.proofs.Common.{◌≡◌, cond, None, sym, ap, ◌∙◌, le-ltb, lt-ltb}
-use Rattle.std.proofs.lemmas.Option.{slice_get-get_or, slice_get_past}
-use Rattle.std.specs.List.{slice_get}
 use Rattle.naming.proofs.Nodes.{node_at, node-past, node-above}
 use Rattle.naming.proofs.written.Written.node.Goals as goal
 use Rattle.naming.proofs.written.Written.node.Goals.{else-at-top-via-then-at-top+else-at-self, else-at-top-via-else-at-top}

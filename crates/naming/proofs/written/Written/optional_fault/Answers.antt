@@ -1,9 +1,6 @@
-use Rattle.std.proofs.Common.{◌≡◌, suc, ◌+◌, cond, [], length, sym, ap, ◌∙◌, arith}
+use Rattle.std.proofs.Common.{length, sym, ap, ◌∙◌, arith}
 use Rattle.grammar.specs.Parsers.{is_a}
-use Rattle.grammar.specs.Stretches.{conditions_at}
 use Rattle.grammar.specs.Trees.{look_of}
-use Rattle.naming.specs.Faults.{condition_faults}
-use Rattle.naming.specs.Least.{least}
 use Rattle.naming.specs.Reaches.{tokens_of}
 use Rattle.naming.specs.Sources.{source_of}
 use Rattle.naming.proofs.Begins.{stands}

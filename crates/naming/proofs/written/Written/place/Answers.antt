@@ -1,4 +1,4 @@
-use Rattle.std.proofs.Common.{◌≡◌, sym, ◌∙◌}
+use Rattle.std.proofs.Common.{sym, ◌∙◌}
 use Rattle.naming.specs.Sources.{source_of}
 use Rattle.naming.proofs.Grown.{place-inner, place-own}
 use Rattle.naming.proofs.written.Written.place.Goals as goal

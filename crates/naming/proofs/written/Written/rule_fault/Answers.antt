@@ -1,4 +1,4 @@
-use Rattle.std.proofs.Common.{◌≡◌, cond, [], ◌∷◌, length, is_some, sym, refl, ap, ◌∙◌, arith}
+use Rattle.std.proofs.Common.{cond, [], ◌∷◌, length, is_some, refl, ap, ◌∙◌, arith}
 use Rattle.letters.specs.declared.kind.Kind.TheVariants.{Needs, Gives}
 use Rattle.letters.specs.declared.token.Token.{Token}
 use Rattle.letters.specs.Kinds.{same_kind}

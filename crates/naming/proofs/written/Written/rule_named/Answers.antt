@@ -1,6 +1,4 @@
-use Rattle.std.proofs.Common.{◌≡◌, ◌+◌, length, sym, ap, ◌∙◌, arith}
-use Rattle.grammar.specs.Stretches.{params_at}
-use Rattle.grammar.specs.Trees.{look_of}
+use Rattle.std.proofs.Common.{◌+◌, ◌∙◌, arith}
 use Rattle.naming.specs.Sources.{source_of}
 use Rattle.naming.proofs.Called.{named_none, named-next, named-front}
 use Rattle.naming.proofs.written.Written.rule_named.Goals as goal

@@ -1,4 +1,4 @@
-use Rattle.std.proofs.Common.{◌≡◌, sym, ap, ◌∙◌, arith}
+use Rattle.std.proofs.Common.{arith}
 use Rattle.naming.specs.Reaches.{sheet_of}
 use Rattle.naming.specs.Sources.{source_of}
 use Rattle.naming.proofs.Ruling.{rules-first, rules-next}

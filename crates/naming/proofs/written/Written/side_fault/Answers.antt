@@ -1,11 +1,10 @@
-use Rattle.std.proofs.Common.{◌≡◌, ◌+◌, false, length, sym, ap, ◌∙◌, arith}
+use Rattle.std.proofs.Common.{false, length, sym, ap, ◌∙◌, arith}
 use Rattle.letters.specs.declared.kind.Kind.TheVariants.{Minus}
-use Rattle.letters.specs.Kinds.{same_kind}
 use Rattle.grammar.specs.Parsers.{is_a}
 use Rattle.grammar.specs.Sheets.{sum_sign}
 use Rattle.grammar.specs.Stretches.{item_at}
 use Rattle.grammar.specs.Trees.{look_of}
-use Rattle.naming.specs.Faults.{atom_faults, side_faults}
+use Rattle.naming.specs.Faults.{side_faults}
 use Rattle.naming.specs.Least.{merged, least}
 use Rattle.naming.specs.Reaches.{tokens_of}
 use Rattle.naming.specs.Sources.{source_of}

@@ -1,5 +1,4 @@
-use Rattle.std.proofs.Common.{◌≡◌, sym, ◌∙◌}
-use Rattle.naming.specs.Least.{least}
+use Rattle.std.proofs.Common.{sym}
 use Rattle.naming.proofs.Slots.{found-yes, found-no}
 use Rattle.naming.proofs.written.Written.unknown.Goals as goal
 
