@@ -8,9 +8,9 @@ mod refused;
 
 use anyhow::anyhow;
 use questions::{EXAMPLES, Example, answer_to, word_of};
-use reading::LEAST_RECORDS;
+use reading::{LEAST_RECORDS, read};
 use records::Record;
-use refused::{REFUSED, Refused, is_refused};
+use refused::{REFUSED, Refused};
 
 // The examples hold of the definitions, by computing.
 fn table_stands()
@@ -36,6 +36,14 @@ fn show(rt: &HostRuntime, example: Example) -> anyhow::Result<bool> {
     let mark = mark(same);
     println!(rt; "{asked}: from '{facts}' to '{goal}' by '{certificate}': {got}, {mark}")?;
     Ok(same)
+}
+
+// Reading the text ends as it must.
+fn is_refused(example: Refused, records: &mut [Record]) -> bool {
+    match read(example.text.as_bytes(), 0, 1000, records) {
+        Ok(_) => false,
+        Err(refusal) => refusal.word() == example.word && refusal.place() == example.place,
+    }
 }
 
 fn show_refused(

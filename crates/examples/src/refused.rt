@@ -1,6 +1,3 @@
-use reading::read;
-use records::Record;
-
 // A text, and the refusal with its place that reading it must end in.
 #[derive(Clone, Copy)]
 pub struct Refused {
@@ -111,11 +108,3 @@ pub const REFUSED: [Refused; 20] = [
         place: 31,
     },
 ];
-
-// Reading the text ends as it must.
-pub fn is_refused(example: Refused, records: &mut [Record]) -> bool {
-    match read(example.text.as_bytes(), 0, 1000, records) {
-        Ok(_) => false,
-        Err(refusal) => refusal.word() == example.word && refusal.place() == example.place,
-    }
-}

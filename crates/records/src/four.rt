@@ -24,7 +24,7 @@ impl<T: Copy> Four<T> {
     }
 
     // What the slot with a number below four holds.
-    pub fn at(self, slot: usize) -> T
+    pub(crate) fn at(self, slot: usize) -> T
         requires { slot < 4 }
         ensures { slice_get (slots self) slot ≡ Some result }
     {
@@ -37,7 +37,7 @@ impl<T: Copy> Four<T> {
     }
 
     // The four with another entry in the slot with a number below four.
-    pub fn with(self, slot: usize, x: T) -> Four<T>
+    pub(crate) fn with(self, slot: usize, x: T) -> Four<T>
         requires { slot < 4 }
         ensures { slots result ≡ slice_set (slots self) slot x }
     {
