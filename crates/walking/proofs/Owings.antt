@@ -1,5 +1,5 @@
 -- What owing one row comes to.
-use Rattle.std.proofs.Common.{◌≡◌, ℕ, suc, ◌+◌, ◌*◌, ◌<◌, ◌≤◌, true, cond, List, [], ◌∷◌, ◌++◌, length, Some, None, Ok, Err, Option, Result, pos, sym, refl, ap, ◌∙◌, subst, arith, le-leb}
+use Rattle.std.proofs.Common.{◌≡◌, ℕ, suc, ◌+◌, ◌*◌, ◌<◌, ◌≤◌, Bool, true, false, cond, ltb, List, [], ◌∷◌, ◌++◌, length, Some, None, Ok, Err, Option, Result, pos, sym, refl, ap, ◌∙◌, subst, arith, le-leb}
 use Rattle.std.proofs.lemmas.Bool.{and_from, lt-ltb, le-ltb}
 use Rattle.rows.specs.declared.row.Row.{Row}
 use Rattle.language.specs.declared.owed.Duty.{Duty}
@@ -11,18 +11,27 @@ use Rattle.language.specs.Terms.{zero_term}
 use Rattle.language.specs.Comparing.{at_most}
 use Rattle.language.specs.Walking.{Note, owes, fault, Owing, owe, owe_all, owe_checks, obligations_of, first_fault}
 use Rattle.language.proofs.Laws.{fault-first, fault-next}
+use Rattle.language.proofs.Tests.{none-some}
 use Rattle.std.proofs.lemmas.List.{append-nil, append_assoc, length-append}
 use Rattle.records.specs.declared.laid.Laid.{Laid}
 use Rattle.records.specs.Owing.{OwesAll, takes_one}
 use Rattle.records.specs.Added.{OnePut}
-use Rattle.walking.specs.Owing.{Pays, Breaks, Paid, checks}
+use Rattle.walking.specs.Owing.{Pays, Breaks, Paid, owed_before, checks}
 
 module _ (duty : Duty) (place work : ℕ) (facts : List Row) (count : ℕ) where
   pub owe-none : first_fault (owe duty place work facts count None).notes ≡ Some (Large work)
   unfolding owe first_fault
   owe-none = refl
 
+  pub before-none : owed_before (owe duty place work facts count None).notes ≡ []
+  unfolding owe owed_before
+  before-none = refl
+
   module _ (row : Row) where
+    pub before-full : 128 ≤ count → owed_before (owe duty place work facts count (Some row)).notes ≡ []
+    unfolding owe owed_before
+    before-full h = ap (λ b. cond b (record { number = count; duty = duty; place = place; facts = facts; goal = row } ∷ []) []) (le-ltb count 128 h)
+
     pub owe-full : 128 ≤ count → first_fault (owe duty place work facts count (Some row)).notes ≡ Some (Full work)
     unfolding owe first_fault
     owe-full h = ap (λ b. cond b None (Some (Full work))) (le-ltb count 128 h)
@@ -44,6 +53,28 @@ unfolding obligations_of
 owed-append [] ns = refl
 owed-append (owes o work ∷ ms) ns = ap (λ os. o ∷ os) (owed-append ms ns)
 owed-append (fault r ∷ ms) ns = owed-append ms ns
+
+-- before the first fault stands all that is noted where there is none, and then what follows
+before-next : (ms ns : List Note) → first_fault ms ≡ None → owed_before (ms ++ ns) ≡ obligations_of ms ++ owed_before ns
+unfolding first_fault owed_before obligations_of
+before-next [] ns e = refl
+before-next (fault q ∷ ms) ns e = absurd (none-some q (sym e))
+before-next (owes o work ∷ ms) ns e = go (ltb o.number 128) (before-next ms ns) e
+  where
+    go : (b : Bool) → (first_fault ms ≡ None → owed_before (ms ++ ns) ≡ obligations_of ms ++ owed_before ns) → cond b (first_fault ms) (Some (Full work)) ≡ None → cond b (o ∷ owed_before (ms ++ ns)) [] ≡ o ∷ (obligations_of ms ++ owed_before ns)
+    go true f e = ap (λ os. o ∷ os) (f e)
+    go false f e = absurd (none-some (Full work) (sym e))
+
+-- what follows the first fault is none of it
+before-first : (ms ns : List Note) (r : Refusal) → first_fault ms ≡ Some r → owed_before (ms ++ ns) ≡ owed_before ms
+unfolding first_fault owed_before
+before-first [] ns r e = absurd (none-some r e)
+before-first (fault q ∷ ms) ns r e = refl
+before-first (owes o work ∷ ms) ns r e = go (ltb o.number 128) (before-first ms ns r) e
+  where
+    go : (b : Bool) → (first_fault ms ≡ Some r → owed_before (ms ++ ns) ≡ owed_before ms) → cond b (first_fault ms) (Some (Full work)) ≡ Some r → cond b (o ∷ owed_before (ms ++ ns)) [] ≡ cond b (o ∷ owed_before ms) []
+    go true f e = ap (λ os. o ∷ os) (f e)
+    go false f e = refl
 
 -- there is room for it
 pub has_room : (records count facts : ℕ) → 3200 ≤ records → facts ≤ 24 → count < 128 → takes_one records count facts ≡ true
@@ -75,11 +106,33 @@ pays-then o p t u v a b =
           (b.owes (os ++ obligations_of o.notes) (omega (arith, a.number, length-append os (obligations_of o.notes))) (a.owes os h w));
     }
 
+-- a fault where nothing was owed
+pub breaks-here : (r : Refusal) (ns : List Note) (t : Laid) → first_fault ns ≡ Some r → owed_before ns ≡ [] → Breaks r ns t t
+breaks-here r ns t f e = record {
+  fault = f;
+  columns = refl;
+  number = omega (arith, ap length e);
+  owes = λ os h w. subst (λ ps. OwesAll t.records.now ps) (sym (ap (λ ps. os ++ ps) e ∙ append-nil os)) w;
+}
+
 pub breaks-then : (r : Refusal) (o : Owing) (ns : List Note) (t u v : Laid) → Pays o t u → Breaks r ns u v → Breaks r (o.notes ++ ns) t v
-breaks-then r o ns t u v a b = record { fault = fault-next o.notes ns a.faultless ∙ b.fault; columns = b.columns ∙ a.columns }
+breaks-then r o ns t u v a b =
+    let e = before-next o.notes ns a.faultless in record {
+      fault = fault-next o.notes ns a.faultless ∙ b.fault;
+      columns = b.columns ∙ a.columns;
+      number = omega (arith, a.number, b.number, ap length e, length-append (obligations_of o.notes) (owed_before ns));
+      owes = λ os h w. subst (λ ps. OwesAll v.records.now ps) (append_assoc os (obligations_of o.notes) (owed_before ns) ∙ sym (ap (λ qs. os ++ qs) e))
+          (b.owes (os ++ obligations_of o.notes) (omega (arith, a.number, h, length-append os (obligations_of o.notes))) (a.owes os h w));
+    }
 
 pub breaks-first : (r : Refusal) (ms ns : List Note) (t u : Laid) → Breaks r ms t u → Breaks r (ms ++ ns) t u
-breaks-first r ms ns t u b = record { fault = fault-first ms ns r b.fault; columns = b.columns }
+breaks-first r ms ns t u b =
+    let e = before-first ms ns r b.fault in record {
+      fault = fault-first ms ns r b.fault;
+      columns = b.columns;
+      number = omega (arith, b.number, ap length e);
+      owes = λ os h w. subst (λ ps. OwesAll u.records.now (os ++ ps)) (sym e) (b.owes os h w);
+    }
 
 -- the second step, after one that went well
 pub paid-then : (r : Result (Unit {0}) Refusal) (o p : Owing) (t u v : Laid) → Pays o t u → Paid r p u v → Paid r (record { count = p.count; notes = o.notes ++ p.notes }) t v

@@ -18,10 +18,10 @@ abbrev pub Took : Result (Unit {0}) Refusal → Known → List Row → List Row 
 Took (Ok u) k before after = (first_fault k.notes ≡ None) × (after ≡ k.facts)
 Took (Err r) k before after = (first_fault k.notes ≡ Some r) × ((more : List Row) × (after ≡ before ++ more))
 
--- the next quantity was taken; or there is none
+-- the next quantity was taken; or there is none, and nothing changes
 abbrev pub Fresh : Result Term Refusal → ℕ → ℕ → ℕ → Type 0
 Fresh (Ok t) place before after = (t ≡ quantity before) × (after ≡ suc before) × (first_fault (limit (nat_lt before quantities) (Full place)) ≡ None)
-Fresh (Err r) place before after = first_fault (limit (nat_lt before quantities) (Full place)) ≡ Some r
+Fresh (Err r) place before after = (first_fault (limit (nat_lt before quantities) (Full place)) ≡ Some r) × (after ≡ before)
 
 -- the given place, else the condition's own
 abbrev pub placed : Option ℕ → Tree.Condition → ℕ

@@ -1,9 +1,10 @@
--- What owing answers: a fault that the walk notes, or the tables with the obligations that it notes.
-use Rattle.std.specs.Prelude.{◌≡◌, ℕ, ◌+◌, ◌≤◌, List, ◌++◌, length, Some, None, Ok, Err, Result}
+-- What owing answers: the first fault that the walk notes, or none; and the tables with the obligations that it notes.
+use Rattle.std.specs.Prelude.{◌≡◌, ℕ, ◌+◌, ◌≤◌, cond, List, [], ◌∷◌, ◌++◌, length, Some, None, Ok, Err, Result, nat_lt}
 use Rattle.language.specs.declared.refusal.Refusal.{Refusal}
 use Rattle.rows.specs.declared.row.Row.{Row}
 use Rattle.language.specs.declared.term.Term.{Term}
-use Rattle.language.specs.Walking.{Note, Obligation, Owing, owe_checks, obligations_of, first_fault}
+use Rattle.language.specs.Limits.{most_obligations}
+use Rattle.language.specs.Walking.{Note, owes, fault, Obligation, Owing, owe_checks, obligations_of, first_fault}
 use Rattle.records.specs.declared.laid.Laid.{Laid}
 use Rattle.records.specs.Laying.{columns_of}
 use Rattle.records.specs.Owing.{OwesAll}
@@ -20,10 +21,18 @@ pub record Pays (o : Owing) (t u : Laid) : Type 0 where
   pub number : u.owed ≡ t.owed + length (obligations_of o.notes)
   pub owes : (os : List Obligation) → length os ≡ t.owed → OwesAll t.records.now os → OwesAll u.records.now (os ++ obligations_of o.notes)
 
--- the first fault that is noted, in the same records
+-- the obligations that are noted before the first fault
+unfoldable pub owed_before : List Note → List Obligation
+owed_before [] = []
+owed_before (owes o work ∷ ns) = cond (nat_lt o.number most_obligations) (o ∷ owed_before ns) []
+owed_before (fault r ∷ ns) = []
+
+-- the first fault that is noted; the obligations before it join those that stood in the tables, which stay otherwise
 pub record Breaks (r : Refusal) (notes : List Note) (t u : Laid) : Type 0 where
   pub fault : first_fault notes ≡ Some r
   pub columns : columns_of u ≡ columns_of t
+  pub number : u.owed ≡ t.owed + length (owed_before notes)
+  pub owes : (os : List Obligation) → length os ≡ t.owed → OwesAll t.records.now os → OwesAll u.records.now (os ++ owed_before notes)
 
 abbrev pub Paid : Result (Unit {0}) Refusal → Owing → Laid → Laid → Type 0
 Paid (Ok v) o t u = Pays o t u
