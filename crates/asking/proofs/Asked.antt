@@ -1,5 +1,5 @@
 -- What the buffer holds after a prover answered.
-use Rattle.std.proofs.Common.{◌≡◌, ℕ, ◌-◌, Bool, true, false, cond, leb, List, length, take, drop, Some, None, Option, sym, ap, ◌∙◌, arith}
+use Rattle.std.proofs.Common.{◌≡◌, ℕ, Bool, true, false, cond, leb, List, length, take, drop, Some, None, Option, sym, ap, ◌∙◌}
 use Rattle.std.proofs.lemmas.List.{take_at}
 use Rattle.provers.specs.Proposals.{counted, written, answer, filled}
 
@@ -11,7 +11,3 @@ asked_is (Some xs) before after n h e = by-fit (leb (length xs) (length before))
     by-fit : (b : Bool) → counted (cond b (Some xs) None) ≡ Some n → after ≡ written (cond b (Some xs) None) before → Some xs ≡ Some (take n after)
     by-fit true h e = let k : length xs ≡ n = cc in ap Some (sym (ap (take n) e ∙ take_at xs (drop (length xs) before) n k))
     by-fit false h e = cc
-
--- the same, as `&buffer[0..n]` has it
-pub asked-part : (p : Option (List ℕ)) (before after : List ℕ) (n : ℕ) → answer p before ≡ Some n → after ≡ filled p before → p ≡ Some (take (n - 0) after)
-asked-part p before after n h e = asked_is p before after n h e ∙ ap (λ k. Some (take k after)) (omega arith)

@@ -1,5 +1,5 @@
 -- Every proposal is a good certificate: each row is its multipliers' combination of the facts and the negated goal.
-use Rattle.std.proofs.Common.{◌≡◌, ℕ, zero, suc, ◌+◌, ◌<◌, ◌≤◌, Bool, true, false, cond, ◌&&◌, ◌≢◌, List, [], ◌∷◌, length, get_or, take, replicate, ℤ, pos, ◌+ℤ◌, nat_abs, Some, sym, refl, ap, ◌∙◌, subst, ap₂, ⊎_elim, arith}
+use Rattle.std.proofs.Common.{◌≡◌, ℕ, zero, suc, ◌+◌, ◌<◌, ◌≤◌, true, false, ◌≢◌, List, [], ◌∷◌, length, get_or, take, replicate, pos, ◌+ℤ◌, nat_abs, Some, sym, refl, ap, ◌∙◌, subst, ap₂, ⊎_elim, arith}
 use lib.IntN.{*ℤ-zero}
 use lib.Signed.{lt_z}
 use Rattle.std.proofs.lemmas.List.{get_or_default, length-set, length-take-le}
@@ -19,7 +19,7 @@ use Rattle.domains.specs.Outcomes.{good-at}
 use Rattle.domains.specs.Linear.{entry, negated, fitting, numbers, kind_ok, kinds, sums, linear}
 use Rattle.provers.specs.declared.derived.Derived.{Derived}
 use Rattle.provers.specs.Derivations.{coef_at, times_at, blend, original, negation, all_modest, combine}
-use Rattle.provers.specs.Elimination.{bind, push_all, originals, without_all, from, first_below, refutation, fourier_motzkin}
+use Rattle.provers.specs.Elimination.{bind, push_all, originals, without_all, from, first_below, refutation}
 use Rattle.asking.specs.Certificates.{Proposals-good}
 use Rattle.asking.proofs.Columns.{derived_entry, Listed, column, combination, in-order-at, in-order-last, total-is}
 use Rattle.asking.proofs.Combining.{times_none, times_long, times-modest, column-is, entry-combined, zero-combined, cancels}

@@ -1,9 +1,8 @@
 -- What two rows combine to: the same combination of the facts and the negated goal as its multipliers say.
-use Rattle.std.proofs.Common.{◌≡◌, ℕ, suc, ◌+◌, ◌*◌, ◌/◌, ◌<◌, true, ◌&&◌, List, map, length, get_or, ℤ, pos, negsuc, ◌+ℤ◌, ◌*ℤ◌, nat_abs, Some, sym, ap, ◌∙◌, subst, ap₂, mul_comm, arith}
+use Rattle.std.proofs.Common.{◌≡◌, ℕ, suc, ◌+◌, ◌*◌, ◌/◌, ◌<◌, true, length, ℤ, pos, negsuc, ◌*ℤ◌, nat_abs, Some, sym, ap, ◌∙◌, ap₂, mul_comm, arith}
 use native.Mathlib.Nat.{mul-div_cancel', zero-div}
 use lib.IntN.{*ℤ-zero}
 use lib.Signed.{lt_z}
-use Rattle.std.specs.List.{range_with_len}
 use Rattle.std.proofs.lemmas.List.FromFn.{get_or-map-range_with_len, length-map-range_with_len}
 use Rattle.std.proofs.lemmas.List.{get_or-map, length-map}
 use Rattle.std.proofs.lemmas.Int.{ints}

@@ -25,10 +25,10 @@ pub fn ask_then_verify<D: Domain, P: Prover>(
     ensures value { result ≡ tried (P.Prover.proposal prover.now question.entry.facts.now question.entry.goal.now) (D.Domain.outcome domain.now question.entry.facts.now question.entry.goal.now) }
     ensures sound { Proved result → Follows (D.Domain.low domain.now) (D.Domain.high domain.now) question.entry.facts.now question.entry.goal.now }
 {
+    // Fixed memory, since asking allocates nothing.
     let mut buffer = [0u32; MOST_NUMBERS];
-    let Some(count) = prover.ask(question, &mut buffer) else {
-        return Err(Unproved::NoProposal);
-    };
-    domain.verify(question, &buffer[0..count])?;
+    let asked = prover.ask(question, &mut buffer);
+    let count = asked.ok_or(Unproved::NoProposal)?;
+    domain.verify(question, &buffer[..count])?;
     Ok(())
 }

@@ -12,6 +12,25 @@ use tally::Tally;
 
 const QUESTIONS: u32 = 4000;
 
+const SIZES: [Size; 4] = [
+    Size {
+        facts: 4,
+        quantities: 2,
+    },
+    Size {
+        facts: 12,
+        quantities: 3,
+    },
+    Size {
+        facts: 16,
+        quantities: 8,
+    },
+    Size {
+        facts: 24,
+        quantities: 16,
+    },
+];
+
 fn measure(rt: &HostRuntime, size: Size) -> io::Result<()> {
     let start = Instant::now(rt)?;
     let Some(tally) = Tally::of(size, QUESTIONS) else {
@@ -34,32 +53,8 @@ fn measure(rt: &HostRuntime, size: Size) -> io::Result<()> {
 }
 
 fn main(rt: HostRuntime) -> io::Result<()> {
-    measure(
-        &rt,
-        Size {
-            facts: 4,
-            quantities: 2,
-        },
-    )?;
-    measure(
-        &rt,
-        Size {
-            facts: 12,
-            quantities: 3,
-        },
-    )?;
-    measure(
-        &rt,
-        Size {
-            facts: 16,
-            quantities: 8,
-        },
-    )?;
-    measure(
-        &rt,
-        Size {
-            facts: 24,
-            quantities: 16,
-        },
-    )
+    for size in SIZES {
+        measure(&rt, size)?;
+    }
+    Ok(())
 }

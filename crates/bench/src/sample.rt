@@ -1,4 +1,6 @@
-use rows::{Kind, Row};
+ghost use Rattle.std.specs.Prelude.{◌<◌};
+
+use rows::{Kind, QUANTITIES, Row};
 
 // How large a question is.
 #[derive(Clone, Copy)]
@@ -18,23 +20,35 @@ impl Sample {
         Sample { state: 1 }
     }
 
-    // A number below n, or 0 where n is 0.
-    fn below(&mut self, n: u32) -> u32 {
+    // A number below n.
+    fn below(&mut self, n: u32) -> u32
+        requires { 0 < n }
+        ensures { result < n }
+    {
         self.state = self
             .state
             .wrapping_mul(1_664_525)
             .wrapping_add(1_013_904_223);
-        (self.state >> 16).checked_rem(n).unwrap_or(0)
+        (self.state >> 16) % n
     }
 
-    // Some of one quantity less some of another is at most a small number.
-    pub(crate) fn row(&mut self, quantities: u32) -> Option<Row> {
-        let up = (self.below(quantities) % 16) as usize;
-        let down = (self.below(quantities) % 16) as usize;
-        let mut coefs = [0i32; 16];
-        coefs[up] = (self.below(3) & 3) as i32 + 1;
-        coefs[down] = -((self.below(3) & 3) as i32) - 1;
-        let bound = (self.below(16) & 15) as i32 - 4;
+    // Some of one quantity less some of another is at most a small number; a row has 1 to 16 quantities.
+    fn row(&mut self, quantities: u32) -> Option<Row> {
+        let quantities = quantities.clamp(1, 16);
+        let up = self.below(quantities) as usize;
+        let down = self.below(quantities) as usize;
+        let mut coefs = [0i32; QUANTITIES];
+        coefs[up] = self.below(3) as i32 + 1;
+        coefs[down] = -(self.below(3) as i32) - 1;
+        let bound = self.below(16) as i32 - 4;
         Row::new(coefs, bound, Kind::AtMost)
+    }
+
+    // The facts of a question, and its goal.
+    pub(crate) fn question(&mut self, quantities: u32, facts: &mut [Row]) -> Option<Row> {
+        for fact in facts.iter_mut() {
+            *fact = self.row(quantities)?;
+        }
+        self.row(quantities)
     }
 }

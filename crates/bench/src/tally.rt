@@ -18,35 +18,13 @@ impl Tally {
             return;
         };
         self.proposed = self.proposed.saturating_add(1);
-        for number in &buffer {
-            self.sum = self.sum.saturating_add(u64::from(*number));
-        }
+        self.sum = buffer.iter().fold(
+            self.sum,
+            |sum, number| sum.saturating_add(u64::from(*number)),
+        );
         if count <= MOST_NUMBERS && Linear.verify(question, &buffer[0..count]).is_ok() {
             self.good = self.good.saturating_add(1);
         }
-    }
-
-    // Asks about a sample of facts and a goal.
-    fn ask_sample(
-        &mut self,
-        sample: &mut Sample,
-        quantities: u32,
-        facts: &mut [Row],
-    ) -> Option<()> {
-        for fact in facts.iter_mut() {
-            *fact = sample.row(quantities)?;
-        }
-        let goal = sample.row(quantities)?;
-        self.ask(Question { facts, goal: &goal });
-        Some(())
-    }
-
-    fn ask_samples(&mut self, quantities: u32, facts: &mut [Row], questions: u32) -> Option<()> {
-        let mut sample = Sample::new();
-        for _ in 0..questions {
-            self.ask_sample(&mut sample, quantities, facts)?;
-        }
-        Some(())
     }
 
     // None only where a sample is past the limits of a row.
@@ -56,9 +34,13 @@ impl Tally {
             good: 0,
             sum: 0,
         };
-        let mut facts = [Row::new([0; 16], 0, Kind::AtMost)?; MOST_FACTS];
-        let count = size.facts.min(MOST_FACTS);
-        tally.ask_samples(size.quantities, &mut facts[0..count], questions)?;
+        let mut sample = Sample::new();
+        let mut room = [Row::new([0; 16], 0, Kind::AtMost)?; MOST_FACTS];
+        let facts = &mut room[..size.facts.min(MOST_FACTS)];
+        for _ in 0..questions {
+            let goal = sample.question(size.quantities, facts)?;
+            tally.ask(Question { facts, goal: &goal });
+        }
         Some(tally)
     }
 }

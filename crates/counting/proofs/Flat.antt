@@ -1,17 +1,13 @@
 -- The first place past what a sheet may have: from the tables, and of the tree that lies in them.
-use Rattle.std.proofs.Common.{◌≡◌, ℕ, cond, List, Some, sum_by, refl, ap, ◌∙◌, arith}
+use Rattle.std.proofs.Common.{◌≡◌, ℕ, cond, List, Some, sum_by, refl, ap, arith}
 use Rattle.grammar.specs.Raw as Raw
 use Rattle.language.specs.Tree as Tree
 use Rattle.records.specs.declared.node.Node.{Node}
 use Rattle.records.specs.declared.node.Node.TheVariants.{Blank, Num, Name, Calc, Read, Call, Bind, Test, Put, Claim, End, Value, Lent}
 use Rattle.records.specs.declared.condition.Condition.{Condition}
-use Rattle.records.specs.Columns.{Columns}
 use Rattle.records.specs.Counting.{node_up_to, nodes_up_to, listed_up_to}
 use Rattle.counting.specs.Counts.{is_up_to, expr_place, placed_up_to, sheet_exprs, sheet_conditions, fault_by, count_fault, flat_fault}
-use Rattle.counting.specs.declared.placed.Placed.TheVariants.{Exprs, Conditions}
-use Rattle.counting.specs.Places.{placed_in}
 use Rattle.counting.proofs.Firsts.{Rising, placed-rises}
-use Rattle.counting.proofs.Places.{placed-map}
 
 node-placed : (q : ℕ) (n : Node) → cond (is_up_to q (expr_place n)) 1 0 ≡ node_up_to q n
 node-placed q Blank = refl
@@ -36,11 +32,11 @@ conditions-at : (conditions : List Condition) (q : ℕ) → placed_up_to (λ (c 
 unfolding listed_up_to
 conditions-at conditions q = refl
 
-pub exprs-placed : (c : Columns) → placed_in c Exprs ≡ (λ q. nodes_up_to q c.nodes.entries)
-exprs-placed c = λ i q. (placed-map expr_place c.nodes.entries q ∙ nodes-at c.nodes.entries q) i
+pub exprs_placed : (nodes : List Node) → placed_up_to expr_place nodes ≡ (λ q. nodes_up_to q nodes)
+exprs_placed nodes = λ i q. nodes-at nodes q i
 
-pub conditions-placed : (c : Columns) → placed_in c Conditions ≡ (λ q. listed_up_to q c.conditions.entries)
-conditions-placed c = λ i q. (placed-map (λ (x : Condition). Some x.place) c.conditions.entries q ∙ conditions-at c.conditions.entries q) i
+pub conditions_placed : (conditions : List Condition) → placed_up_to (λ (x : Condition). Some x.place) conditions ≡ (λ q. listed_up_to q conditions)
+conditions_placed conditions = λ i q. conditions-at conditions q i
 
 pub nodes-rise : (nodes : List Node) → Rising (λ q. nodes_up_to q nodes)
 nodes-rise nodes p q h = omega (arith, placed-rises expr_place nodes p q h, nodes-at nodes p, nodes-at nodes q)

@@ -1,24 +1,20 @@
--- The lists and the numbers of a head, one parameter after another.
-use Rattle.std.proofs.Common.{◌≡◌, ℕ, suc, ◌-◌, ◌<◌, Bool, List, [], ◌∷◌, ◌++◌, Some, None, Option, sym, ap, ◌∙◌, arith}
-use Rattle.std.specs.List.{slice_get}
+-- The lists and the numbers of a head.
+use Rattle.std.proofs.Common.{◌≡◌, ℕ, Bool, List, [], ◌∷◌, ◌++◌, Some, None, Option, refl, ap, ◌∙◌}
+use Rattle.std.specs.List.{filter_map, cons_option}
+use Rattle.std.specs.Option.{option_map}
 use Rattle.grammar.specs.Raw as Raw
 use Rattle.counting.specs.Counts.{place_if, places_of, listed}
 
-pub place_none : (list : Bool) (ps : List Raw.Param) (k : ℕ) → ps ≡ [] → slice_get (places_of list ps) k ≡ None
+-- the parameters that are such, one after another
+pub places_found : (list : Bool) (ps : List Raw.Param) → filter_map (place_if list) ps ≡ places_of list ps
 unfolding places_of
-place_none list ps k e = ap (λ xs. slice_get (places_of list xs) k) e
+places_found list [] = refl
+places_found list (p ∷ ps) = ap (cons_option (place_if list p)) (places_found list ps) ∙ go (place_if list p)
+  where
+    go : (o : Option ℕ) → cons_option o (places_of list ps) ≡ listed o ++ places_of list ps
+    go None = refl
+    go (Some q) = refl
 
-place-on : (list : Bool) (ps qs : List Raw.Param) (p : Raw.Param) (o : Option ℕ) → ps ≡ p ∷ qs → o ≡ place_if list p → places_of list ps ≡ listed o ++ places_of list qs
-unfolding places_of
-place-on list ps qs p o e f = ap (places_of list) e ∙ ap (λ x. listed x ++ places_of list qs) (sym f)
-
-pub place_other : (list : Bool) (ps qs : List Raw.Param) (p : Raw.Param) (k : ℕ) → ps ≡ p ∷ qs → None ≡ place_if list p → slice_get (places_of list ps) k ≡ slice_get (places_of list qs) k
-place_other list ps qs p k e f = ap (λ xs. slice_get xs k) (place-on list ps qs p None e f)
-
-pub place_here : (list : Bool) (ps qs : List Raw.Param) (p : Raw.Param) (x k : ℕ) → ps ≡ p ∷ qs → Some x ≡ place_if list p → k ≡ 0 → slice_get (places_of list ps) k ≡ Some x
-place_here list ps qs p x k e f z = ap (λ n. slice_get (places_of list ps) n) z ∙ ap (λ xs. slice_get xs 0) (place-on list ps qs p (Some x) e f)
-
-pub place-past : (list : Bool) (ps qs : List Raw.Param) (p : Raw.Param) (x k : ℕ) → ps ≡ p ∷ qs → Some x ≡ place_if list p → 0 < k → slice_get (places_of list ps) k ≡ slice_get (places_of list qs) (k - 1)
-place-past list ps qs p x k e f h =
-    let z : k ≡ suc (k - 1) = omega arith in
-    ap (λ n. slice_get (places_of list ps) n) z ∙ ap (λ xs. slice_get xs (suc (k - 1))) (place-on list ps qs p (Some x) e f)
+pub kept : (o : Option ℕ) → o ≡ option_map (λ (p : ℕ). p) o
+kept None = refl
+kept (Some p) = refl

@@ -4,10 +4,9 @@ ghost use Rattle.records.specs.Laying.{columns_of};
 ghost use Rattle.counting.specs.Counts.{flat_fault, FlatWithin};
 
 use crate::heads::{heads_over, rules_over};
-use crate::placed::Placed;
 use crate::search::first_over;
 use naming::{Written, earlier};
-use records::Laid;
+use records::{Condition, Laid, Node};
 
 const MOST_EXPRS: usize = 1024;
 
@@ -21,7 +20,7 @@ pub fn count_fault(sheet: Written<'_>, tables: &Laid<'_>) -> Option<usize>
 {
     let bytes = sheet.text.len();
     let heads = earlier(rules_over(sheet), heads_over(sheet));
-    let exprs = first_over(tables, Placed::Exprs, MOST_EXPRS, bytes);
-    let listed = first_over(tables, Placed::Conditions, MOST_CONDITIONS, bytes);
+    let exprs = first_over::<Node>(tables, MOST_EXPRS, bytes);
+    let listed = first_over::<Condition>(tables, MOST_CONDITIONS, bytes);
     earlier(heads, earlier(exprs, listed))
 }

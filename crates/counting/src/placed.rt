@@ -1,53 +1,40 @@
-ghost use Rattle.std.specs.Prelude.{◌≡◌, None, length, slice_index_or};
-ghost use Rattle.records.specs.Laying.{columns_of};
+ghost use Rattle.std.specs.Prelude.{◌≡◌, ℕ, Some, Option};
 ghost use Rattle.counting.specs.Counts.{expr_place};
-ghost use Rattle.counting.specs.Places.{places_in};
 
-use records::{Laid, Node};
+use records::{Condition, Node, Tabled};
 
-// A table whose entries have places in the text.
-#[derive(Clone, Copy)]
-pub enum Placed {
-    Exprs,
-    Conditions,
+// What lies in a table and may have a place in the text.
+pub trait Placed: Tabled {
+    ghost place: { Self → Option ℕ };
+
+    fn place(self) -> Option<usize>
+        ensures { result ≡ place self };
 }
 
 // Expressions have places, links of arguments have none.
-fn expr_place(node: Node) -> Option<usize>
-    ensures { result ≡ expr_place node }
-{
-    match node {
-        Node::Num { place, .. } => Some(place),
-        Node::Name { place, .. } => Some(place),
-        Node::Calc { place, .. } => Some(place),
-        Node::Read { place, .. } => Some(place),
-        Node::Call { place, .. } => Some(place),
-        Node::Bind { place, .. } => Some(place),
-        Node::Test { place, .. } => Some(place),
-        Node::Put { place, .. } => Some(place),
-        Node::Claim { place, .. } => Some(place),
-        Node::Blank | Node::End | Node::Value { .. } | Node::Lent { .. } => None,
+impl Placed for Node {
+    ghost place = { expr_place };
+
+    fn place(self) -> Option<usize> {
+        match self {
+            Node::Num { place, .. }
+            | Node::Name { place, .. }
+            | Node::Calc { place, .. }
+            | Node::Read { place, .. }
+            | Node::Call { place, .. }
+            | Node::Bind { place, .. }
+            | Node::Test { place, .. }
+            | Node::Put { place, .. }
+            | Node::Claim { place, .. } => Some(place),
+            Node::Blank | Node::End | Node::Value { .. } | Node::Lent { .. } => None,
+        }
     }
 }
 
-impl Placed {
-    // How many entries the table has.
-    pub(crate) fn count(self, tables: &Laid<'_>) -> usize
-        ensures { result ≡ length (places_in (columns_of tables.now) self) }
-    {
-        match self {
-            Placed::Exprs => tables.nodes(),
-            Placed::Conditions => tables.conditions(),
-        }
-    }
+impl Placed for Condition {
+    ghost place = { λ c. Some c.place };
 
-    // The place of the entry at a position, if it has one.
-    pub(crate) fn place(self, tables: &Laid<'_>, at: usize) -> Option<usize>
-        ensures { result ≡ slice_index_or (places_in (columns_of tables.now) self) at None }
-    {
-        match self {
-            Placed::Exprs => expr_place(tables.node(at)?),
-            Placed::Conditions => Some(tables.condition(at)?.place),
-        }
+    fn place(self) -> Option<usize> {
+        Some(self.place)
     }
 }

@@ -8,7 +8,7 @@ use language::Refusal;
 use provers::{Empty, MOST_NUMBERS, Prover};
 use reading::read;
 use records::Record;
-use rows::Question;
+use std::alloc::Global;
 use std::io;
 use std::str::from_utf8;
 
@@ -31,10 +31,13 @@ enum Answer {
     Silence,
     Help,
     Outcome(Result<(), Fault>),
-    Proposal(Option<usize>, [u32; 128]),
+    Proposal(Option<Vec<u32>>),
     Sheet(Result<usize, Refusal>),
-    // A file's name, its text, and how it was read.
-    Check(String, Vec<u8>, Result<usize, Refusal>),
+    Check {
+        file: String,
+        text: Vec<u8>,
+        read: Result<usize, Refusal>,
+    },
 }
 
 // What the desk has at hand: the question by hand, and records to read sheets into.
@@ -44,42 +47,34 @@ pub(crate) struct Desk {
     pub records: Vec<Record>,
 }
 
+// Each domain has a type of its own, and a word that was typed picks one.
 fn verify(question: &ByHand, domain: DomainName, certificate: &[u32]) -> Result<Answer, Complaint> {
-    let Some(goal) = question.goal() else {
-        return Err(Complaint::NoGoal);
-    };
-    let asked = Question {
-        facts: question.facts(),
-        goal: &goal,
-    };
-    let outcome = match domain {
+    let asked = question.asked().ok_or(Complaint::NoGoal)?;
+    Ok(Answer::Outcome(match domain {
         DomainName::Linear => verified(&Linear, asked, certificate),
         DomainName::Modes => verified(&Modes, asked, certificate),
-    };
-    Ok(Answer::Outcome(outcome))
+    }))
 }
 
-fn ask(question: &ByHand, prover: ProverName) -> Result<Answer, Complaint> {
-    let Some(goal) = question.goal() else {
-        return Err(Complaint::NoGoal);
-    };
-    let asked = Question {
-        facts: question.facts(),
-        goal: &goal,
-    };
+fn ask(heap: Global, question: &ByHand, prover: ProverName) -> Result<Answer, Complaint> {
+    let asked = question.asked().ok_or(Complaint::NoGoal)?;
     let mut buffer = [0u32; MOST_NUMBERS];
     let count = match prover {
         ProverName::FourierMotzkin => linear_certificate(asked, &mut buffer),
         ProverName::Empty => Empty.ask(asked, &mut buffer),
     };
-    Ok(Answer::Proposal(count, buffer))
+    let Some(count) = count else {
+        return Ok(Answer::Proposal(None));
+    };
+    let numbers = buffer.iter().copied().take(count).collect(heap)?;
+    Ok(Answer::Proposal(Some(numbers)))
 }
 
 // The widest range: what it is makes no difference to the stages that a check shows.
 fn check(rt: &HostRuntime, records: &mut [Record], file: String) -> Result<Answer, Complaint> {
     let text = read_front(rt, file.as_str())?;
     let read = read(text.as_slice(), i32::MIN, i32::MAX, records);
-    Ok(Answer::Check(file, text, read))
+    Ok(Answer::Check { file, text, read })
 }
 
 fn obey(rt: &HostRuntime, desk: &mut Desk, command: Command) -> Result<Answer, Complaint> {
@@ -98,9 +93,12 @@ fn obey(rt: &HostRuntime, desk: &mut Desk, command: Command) -> Result<Answer, C
             question.set_goal(row);
             Ok(Answer::Silence)
         }
-        Command::Verify(domain, certificate) => verify(question, domain, certificate.as_slice()),
-        Command::Ask(prover) => ask(question, prover),
-        Command::Sheet(file, low, high) => {
+        Command::Verify {
+            domain,
+            certificate,
+        } => verify(question, domain, certificate.as_slice()),
+        Command::Ask(prover) => ask(rt.alloc(), question, prover),
+        Command::Sheet { file, low, high } => {
             let text = read_front(rt, file.as_str())?;
             Ok(Answer::Sheet(read(text.as_slice(), low, high, &mut desk.records)))
         }
@@ -111,21 +109,16 @@ fn obey(rt: &HostRuntime, desk: &mut Desk, command: Command) -> Result<Answer, C
 fn print_outcome(rt: &HostRuntime, outcome: Result<(), Fault>) -> io::Result<()> {
     match outcome {
         Ok(()) => println!(rt; "good"),
-        Err(fault) => {
-            let number = fault.reason.number();
-            let word = fault.reason.word();
-            let depth = fault.depth;
-            println!(rt; "fault {number} {word} depth {depth}")
-        }
+        Err(fault) => println!(rt; "fault {fault}"),
     }
 }
 
-fn print_proposal(rt: &HostRuntime, count: Option<usize>, numbers: &[u32]) -> io::Result<()> {
-    let Some(count) = count else {
+fn print_proposal(rt: &HostRuntime, proposal: Option<&[u32]>) -> io::Result<()> {
+    let Some(numbers) = proposal else {
         return println!(rt; "none");
     };
     print!(rt; "proposal")?;
-    for n in numbers.iter().take(count) {
+    for n in numbers {
         print!(rt; " {n}")?;
     }
     println!(rt; "")
@@ -136,9 +129,10 @@ fn print_answer(rt: &HostRuntime, answer: Result<Answer, Complaint>) -> io::Resu
         Ok(Answer::Silence) => Ok(()),
         Ok(Answer::Help) => println!(rt; "{HELP}"),
         Ok(Answer::Outcome(outcome)) => print_outcome(rt, outcome),
-        Ok(Answer::Proposal(count, numbers)) => print_proposal(rt, count, &numbers),
+        Ok(Answer::Proposal(None)) => print_proposal(rt, None),
+        Ok(Answer::Proposal(Some(numbers))) => print_proposal(rt, Some(numbers.as_slice())),
         Ok(Answer::Sheet(read)) => print_read(rt, read),
-        Ok(Answer::Check(file, text, read)) => print_check(
+        Ok(Answer::Check { file, text, read }) => print_check(
             rt,
             file.as_str(),
             text.as_slice(),
@@ -153,10 +147,7 @@ fn answer_text(rt: &HostRuntime, desk: &mut Desk, line: &str) -> io::Result<()> 
         return Ok(());
     }
     println!(rt; "> {line}")?;
-    let answer = match read_command(rt.alloc(), line) {
-        Ok(command) => obey(rt, desk, command),
-        Err(complaint) => Err(complaint),
-    };
+    let answer = read_command(rt.alloc(), line).and_then(|command| obey(rt, desk, command));
     print_answer(rt, answer)
 }
 

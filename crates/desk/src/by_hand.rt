@@ -1,6 +1,6 @@
-ghost use Rattle.std.specs.Prelude.{◌≡◌, [], ◌∷◌, ◌++◌, Some, None, OnOk};
+ghost use Rattle.std.specs.Prelude.{◌≡◌, [], ◌∷◌, ◌++◌, Some, None, OnOk, IfSome, IfNone};
 
-use rows::Row;
+use rows::{Question, Row};
 use std::alloc::{AllocFailed, Global};
 
 // The question that is typed in, a row at a time.
@@ -39,15 +39,14 @@ impl ByHand {
         self.goal = Some(row);
     }
 
-    pub fn facts(&self) -> &[Row]
-        ensures { result.now ≡ self.now.facts.items }
+    // The question, once it has a goal.
+    pub fn asked(&self) -> Option<Question<'_>>
+        ensures asked { IfSome result (λ asked. (asked.facts.now ≡ self.now.facts.items) × (Some asked.goal.now ≡ self.now.goal)) }
+        ensures none { IfNone result (self.now.goal ≡ None) }
     {
-        self.facts.as_slice()
-    }
-
-    pub fn goal(&self) -> Option<Row>
-        ensures { result ≡ self.now.goal }
-    {
-        self.goal
+        Some(Question {
+            facts: self.facts.as_slice(),
+            goal: self.goal.as_ref()?,
+        })
     }
 }

@@ -1,7 +1,9 @@
-use notation::{Misread, read_row, read_u32};
+use notation::{Misread, read_row, read_u32, read_value};
 use rows::Row;
 use std::alloc::{AllocError, AllocFailed, Global};
-use std::{fmt, io};
+use std::io;
+use std::str::FromStr;
+use thiserror::Error;
 
 #[derive(Clone, Copy)]
 pub enum DomainName {
@@ -15,6 +17,30 @@ pub enum ProverName {
     Empty,
 }
 
+impl FromStr for DomainName {
+    type Err = Complaint;
+
+    fn from_str(word: &str) -> Result<DomainName, Complaint> {
+        match word {
+            "linear" => Ok(DomainName::Linear),
+            "modes" => Ok(DomainName::Modes),
+            _ => Err(Complaint::Domain),
+        }
+    }
+}
+
+impl FromStr for ProverName {
+    type Err = Complaint;
+
+    fn from_str(word: &str) -> Result<ProverName, Complaint> {
+        match word {
+            "fm" => Ok(ProverName::FourierMotzkin),
+            "empty" => Ok(ProverName::Empty),
+            _ => Err(Complaint::Prover),
+        }
+    }
+}
+
 // What a line asks for.
 #[derive(Drop)]
 pub enum Command {
@@ -22,82 +48,53 @@ pub enum Command {
     QuestionNew,
     Fact(Row),
     Goal(Row),
-    Verify(DomainName, Vec<u32>),
+    Verify {
+        domain: DomainName,
+        certificate: Vec<u32>,
+    },
     Ask(ProverName),
-    // A file, and a range from low to high.
-    Sheet(String, i32, i32),
+    Sheet {
+        file: String,
+        low: i32,
+        high: i32,
+    },
     Check(String),
 }
 
 // Why a line is no command, or has no meaning where it stands.
-#[derive(Drop)]
+#[derive(Debug, Drop, Error)]
 pub enum Complaint {
+    #[error("no such command: expected sheet, check, question-new, fact, goal, verify, ask or help")]
     Unknown,
+    #[error("something stands after the command: expected the command alone")]
     Bare,
+    #[error("no such domain: expected linear or modes")]
     Domain,
+    #[error("no such prover: expected fm or empty")]
     Prover,
+    #[error("the question has no goal yet: expected goal ROW first")]
     NoGoal,
+    #[error("the line is no UTF-8 text: expected a command")]
     NoText,
+    #[error("no file is named: expected sheet FILE LOW HIGH, or check FILE")]
     NoFile,
+    #[error("low and high are expected after the file, whole numbers from -2147483648 to 2147483647 in their shortest form")]
     Range,
-    Unreadable(io::Error),
-    Misread(Misread),
-}
-
-impl From<Misread> for Complaint {
-    fn from(value: Misread) -> Complaint {
-        Complaint::Misread(value)
-    }
+    #[error("the file cannot be read: {0}; expected a file's name")]
+    Unreadable(#[from] io::Error),
+    #[error(transparent)]
+    Misread(#[from] Misread),
 }
 
 impl From<AllocError> for Complaint {
-    fn from(_value: AllocError) -> Complaint {
-        Complaint::Misread(Misread::Memory)
-    }
-}
-
-impl From<io::Error> for Complaint {
-    fn from(value: io::Error) -> Complaint {
-        Complaint::Unreadable(value)
+    fn from(value: AllocError) -> Complaint {
+        Complaint::Misread(Misread::from(value))
     }
 }
 
 impl<T: Drop> From<AllocFailed<T>> for Complaint {
     fn from(_value: AllocFailed<T>) -> Complaint {
         Complaint::Misread(Misread::Memory)
-    }
-}
-
-fn sentence(complaint: &Complaint) -> &'static str {
-    match complaint {
-        Complaint::Unknown =>
-            "no such command: expected sheet, check, question-new, fact, goal, verify, ask or help",
-        Complaint::Bare => "something stands after the command: expected the command alone",
-        Complaint::Domain => "no such domain: expected linear or modes",
-        Complaint::Prover => "no such prover: expected fm or empty",
-        Complaint::NoGoal => "the question has no goal yet: expected goal ROW first",
-        Complaint::NoText => "the line is no UTF-8 text: expected a command",
-        Complaint::NoFile => "no file is named: expected sheet FILE LOW HIGH, or check FILE",
-        Complaint::Range =>
-            "low and high are expected after the file, whole numbers from -2147483648 to 2147483647 in their shortest form",
-        Complaint::Unreadable(_) => "",
-        Complaint::Misread(_) => "",
-    }
-}
-
-impl fmt::Display for Complaint {
-    fn fmt<W: fmt::Write>(&self, f: &mut fmt::Formatter<W>) -> fmt::Result {
-        match self {
-            Complaint::Misread(misread) => write!(f, "{misread}"),
-            Complaint::Unreadable(error) => write!(
-                f,
-                "the file cannot be read: {error}; expected a file's name"
-            ),
-            _ => {
-                let text = sentence(self);
-                write!(f, "{text}")
-            }
-        }
     }
 }
 
@@ -116,26 +113,6 @@ fn bare(command: Command, rest: Option<&str>) -> Result<Command, Complaint> {
     }
 }
 
-fn read_domain(word: &str) -> Result<DomainName, Complaint> {
-    if word == "linear" {
-        Ok(DomainName::Linear)
-    } else if word == "modes" {
-        Ok(DomainName::Modes)
-    } else {
-        Err(Complaint::Domain)
-    }
-}
-
-fn read_prover(word: &str) -> Result<ProverName, Complaint> {
-    if word == "fm" {
-        Ok(ProverName::FourierMotzkin)
-    } else if word == "empty" {
-        Ok(ProverName::Empty)
-    } else {
-        Err(Complaint::Prover)
-    }
-}
-
 fn read_numbers(heap: Global, words: Option<&str>) -> Result<Vec<u32>, Complaint> {
     let mut numbers = Vec::new(heap);
     let Some(text) = words else {
@@ -150,21 +127,17 @@ fn read_numbers(heap: Global, words: Option<&str>) -> Result<Vec<u32>, Complaint
 
 fn read_verify(heap: Global, rest: &str) -> Result<Command, Complaint> {
     let (name, numbers) = first_word(rest);
-    let domain = read_domain(name)?;
+    let domain = name.parse::<DomainName>()?;
     let certificate = read_numbers(heap, numbers)?;
-    Ok(Command::Verify(domain, certificate))
+    Ok(Command::Verify {
+        domain,
+        certificate,
+    })
 }
 
 // A number of a range, in its one form.
 fn read_bound(heap: Global, word: &str) -> Result<i32, Complaint> {
-    let Ok(n) = word.parse::<i32>() else {
-        return Err(Complaint::Range);
-    };
-    let written = format!(in heap; "{n}")?;
-    if written.as_str() != word {
-        return Err(Complaint::Range);
-    }
-    Ok(n)
+    read_value::<i32>(heap, word)?.ok_or(Complaint::Range)
 }
 
 // A file's name and a range; the name is all before the last two words.
@@ -172,16 +145,12 @@ fn read_sheet(heap: Global, rest: &str) -> Result<Command, Complaint> {
     if rest.is_empty() {
         return Err(Complaint::NoFile);
     }
-    let Some((front, high)) = rest.rsplit_once(' ') else {
-        return Err(Complaint::Range);
-    };
-    let Some((file, low)) = front.rsplit_once(' ') else {
-        return Err(Complaint::Range);
-    };
+    let (front, high) = rest.rsplit_once(' ').ok_or(Complaint::Range)?;
+    let (file, low) = front.rsplit_once(' ').ok_or(Complaint::Range)?;
     let low = read_bound(heap, low)?;
     let high = read_bound(heap, high)?;
     let file = String::from_str(heap, file)?;
-    Ok(Command::Sheet(file, low, high))
+    Ok(Command::Sheet { file, low, high })
 }
 
 fn read_check(heap: Global, rest: &str) -> Result<Command, Complaint> {
@@ -194,23 +163,15 @@ fn read_check(heap: Global, rest: &str) -> Result<Command, Complaint> {
 pub(crate) fn read_command(heap: Global, line: &str) -> Result<Command, Complaint> {
     let (word, after) = first_word(line);
     let rest = after.unwrap_or("");
-    if word == "question-new" {
-        bare(Command::QuestionNew, after)
-    } else if word == "help" {
-        bare(Command::Help, after)
-    } else if word == "fact" {
-        Ok(Command::Fact(read_row(heap, rest)?))
-    } else if word == "goal" {
-        Ok(Command::Goal(read_row(heap, rest)?))
-    } else if word == "verify" {
-        read_verify(heap, rest)
-    } else if word == "ask" {
-        Ok(Command::Ask(read_prover(rest)?))
-    } else if word == "sheet" {
-        read_sheet(heap, rest)
-    } else if word == "check" {
-        read_check(heap, rest)
-    } else {
-        Err(Complaint::Unknown)
+    match word {
+        "question-new" => bare(Command::QuestionNew, after),
+        "help" => bare(Command::Help, after),
+        "fact" => Ok(Command::Fact(read_row(heap, rest)?)),
+        "goal" => Ok(Command::Goal(read_row(heap, rest)?)),
+        "verify" => read_verify(heap, rest),
+        "ask" => Ok(Command::Ask(rest.parse::<ProverName>()?)),
+        "sheet" => read_sheet(heap, rest),
+        "check" => read_check(heap, rest),
+        _ => Err(Complaint::Unknown),
     }
 }

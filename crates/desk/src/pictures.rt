@@ -11,12 +11,7 @@ const MOST_BEFORE: usize = 60;
 
 // The token that begins at a place, if one does.
 fn token_at(tokens: &[Token], place: usize) -> Option<Token> {
-    for token in tokens {
-        if token.place == place {
-            return Some(*token);
-        }
-    }
-    None
+    tokens.iter().find(|token| token.place == place).copied()
 }
 
 // A byte as it is shown: what is no printable sign of ASCII, and no tab, as a question mark.
@@ -29,11 +24,7 @@ fn shown(byte: u8) -> char {
 }
 
 fn shown_text(heap: Global, bytes: &[u8]) -> Result<String, AllocError> {
-    let mut text = String::new(heap);
-    for byte in bytes {
-        text.push(shown(*byte))?;
-    }
-    Ok(text)
+    bytes.iter().map(|byte| shown(*byte)).collect(heap)
 }
 
 fn quoted(heap: Global, bytes: &[u8]) -> Result<String, AllocError> {

@@ -16,14 +16,14 @@ pub(crate) fn read_front(rt: &HostRuntime, file: &str) -> io::Result<Vec<u8>> {
 }
 
 pub(crate) fn print_refusal(rt: &HostRuntime, refusal: Refusal) -> io::Result<()> {
-    let number = refusal.number();
-    let word = refusal.word();
-    let place = refusal.place();
-    let named = refusal.named();
-    let reason = refusal.reason();
-    let depth = refusal.depth();
     println!(rt;
-        "refused {number} {word} place {place} number {named} reason {reason} depth {depth}"
+        "refused {} {} place {} number {} reason {} depth {}",
+        refusal.number(),
+        refusal.word(),
+        refusal.place(),
+        refusal.named(),
+        refusal.reason(),
+        refusal.depth(),
     )
 }
 

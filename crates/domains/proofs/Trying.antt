@@ -1,12 +1,19 @@
 -- Steps of the search for values that break the goal.
-use Rattle.std.proofs.Common.{◌≡◌, ℕ, zero, suc, ◌-◌, ◌<◌, ◌≤◌, Bool, true, false, cond, ◌&&◌, eqb, leb, List, length, set, replicate, Ok, sym, refl, ap, ◌∙◌, arith}
-use Rattle.std.proofs.lemmas.Bool.{lt-leb, le-leb}
-use Rattle.ints.specs.Tests.{any_below, count_below}
+use Rattle.std.proofs.Common.{◌≡◌, ℕ, zero, suc, ◌-◌, ◌<◌, ◌≤◌, Bool, true, false, cond, not, ◌&&◌, ◌||◌, eqb, leb, List, [], ◌∷◌, length, set, replicate, Ok, sym, refl, ap, ◌∙◌, arith}
+use Rattle.std.specs.List.{list_any}
+use Rattle.std.proofs.lemmas.Bool.{le-leb}
+use Rattle.ints.specs.Tests.{any_below, count_below, is_zero}
 use Rattle.rows.specs.declared.row.Row.{Row}
+use Rattle.rows.specs.Meaning.{coef}
 use Rattle.rows.specs.Questions.{well_shaped}
 use Rattle.domains.specs.declared.fault.Reason.TheVariants.{Shape, Width, Case}
 use Rattle.domains.specs.Faults.{fault}
-use Rattle.domains.specs.Modes.{occurs, width, at, breaks, broken, modes}
+use Rattle.domains.specs.Modes.{occurs_in, occurs, width, at, breaks, broken, modes}
+
+pub occurs_some : (j : ℕ) (rs : List Row) → occurs_in j rs ≡ list_any (λ r. not (is_zero (coef r j))) rs
+unfolding occurs_in
+occurs_some j [] = refl
+occurs_some j (r ∷ rs) = ap (λ b. not (is_zero (coef r j)) || b) (occurs_some j rs)
 
 module _ (facts : List Row) (goal : Row) (n : ℕ) (p : List ℕ) where
   stepped : (b : Bool) → (n ≡ 0 → ⊥) → occurs facts goal (n - 1) ≡ b → broken facts goal n p ≡ cond b (any_below 16 (λ v. broken facts goal (n - 1) (set p (n - 1) v))) (broken facts goal (n - 1) p)
@@ -37,9 +44,6 @@ module _ (facts : List Row) (goal : Row) (cert : List ℕ) (shaped : (well_shape
       ap (λ s. cond s (cond (leb (width facts goal) 4) (cond (broken facts goal 16 (replicate 16 0)) (fault Case) (Ok tt)) (fault Width)) (fault Shape)) shaped
       ∙ ap (λ x. cond x (cond (broken facts goal 16 (replicate 16 0)) (fault Case) (Ok tt)) (fault Width)) e
       ∙ ap (λ x. cond w (cond x (fault Case) (Ok tt)) (fault Width)) f
-
-  pub too_wide : 4 < width facts goal → fault Width ≡ modes facts goal cert
-  too_wide h = sym (tested false _ (lt-leb _ _ h) refl)
 
   pub tried : (b : Bool) → width facts goal ≤ 4 → broken facts goal 16 (replicate 16 0) ≡ b → cond b (fault Case) (Ok tt) ≡ modes facts goal cert
   tried b h f = sym (tested true b (le-leb _ _ h) f)

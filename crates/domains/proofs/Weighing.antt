@@ -1,6 +1,6 @@
 -- Steps of the linear domain's loops.
-use Rattle.std.proofs.Common.{◌≡◌, ℕ, zero, suc, ◌+◌, ◌<◌, ◌≤◌, true, ◌&&◌, leb, List, [], ◌∷◌, length, get_or, drop, ℤ, pos, ◌+ℤ◌, ◌*ℤ◌, sym, refl, ap, ◌∙◌, ap₂, arith}
-use Rattle.std.proofs.lemmas.List.{drop_more, drop_all}
+use Rattle.std.proofs.Common.{◌≡◌, ℕ, zero, suc, ◌≤◌, true, ◌&&◌, leb, List, [], ◌∷◌, length, get_or, ℤ, pos, ◌+ℤ◌, ◌*ℤ◌, sym, refl, ap, ◌∙◌, ap₂, arith}
+use Rattle.std.specs.List.{list_all, zip}
 use Rattle.std.proofs.lemmas.Bool.{and_parts, leb-true}
 use Rattle.std.proofs.lemmas.Int.{ints}
 use Rattle.ints.specs.Sums.{Near}
@@ -18,36 +18,36 @@ pub negated-near : (c : Column) (r : Row) → Near 4000001 (negated c r)
 negated-near (Coef j) r = let n = coef-near r j in (omega (arith, ints), omega (arith, ints))
 negated-near Bound r = let n = bound-near r in (omega (arith, ints), omega (arith, ints))
 
-pub numbers_more : (xs : List ℕ) (i : ℕ) → i < length xs → numbers (drop i xs) ≡ (leb (get_or xs i 0) 1000000 && numbers (drop (i + 1) xs))
+pub numbers_is : (ms : List ℕ) → numbers ms ≡ list_all (λ m. leb m 1000000) ms
 unfolding numbers
-numbers_more xs i h = ap numbers (drop_more xs i 0 h)
+numbers_is [] = refl
+numbers_is (m ∷ ms) = ap (λ b. leb m 1000000 && b) (numbers_is ms)
 
-pub numbers-all : (xs : List ℕ) (i : ℕ) → length xs ≤ i → numbers (drop i xs) ≡ true
-unfolding numbers
-numbers-all xs i h = ap numbers (drop_all i xs h)
-
-pub numbers-at : (xs : List ℕ) (i : ℕ) → numbers xs ≡ true → get_or xs i 0 ≤ 1000000
-unfolding numbers
-numbers-at [] i h = omega arith
-numbers-at (x ∷ xs) zero h = leb-true x 1000000 (and_parts _ _ h).0
-numbers-at (x ∷ xs) (suc i) h = numbers-at xs i (and_parts _ _ h).1
-
-pub kinds-more : (ms : List ℕ) (rs : List Row) (i : ℕ) (r : Row) → i < length ms → i < length rs → r ≡ get_or rs i r → kinds (drop i ms) (drop i rs) ≡ (kind_ok (get_or ms i 0) r.kind && kinds (drop (i + 1) ms) (drop (i + 1) rs))
+pub kinds_is : (ms : List ℕ) (rs : List Row) → kinds ms rs ≡ list_all (λ p. kind_ok p.1 p.0.kind) (zip rs ms)
 unfolding kinds
-kinds-more ms rs i r h k e = ap₂ kinds (drop_more ms i 0 h) (drop_more rs i r k ∙ ap (λ s. s ∷ drop (i + 1) rs) (sym e))
+kinds_is [] [] = refl
+kinds_is [] (r ∷ rs) = refl
+kinds_is (m ∷ ms) [] = refl
+kinds_is (m ∷ ms) (r ∷ rs) = ap (λ b. kind_ok m r.kind && b) (kinds_is ms rs)
 
-kinds-none : (xs : List ℕ) → kinds xs [] ≡ true
-unfolding kinds
-kinds-none [] = refl
-kinds-none (x ∷ xs) = refl
+-- the first of some multipliers keeps the limit, and so do those after it
+pub numbers_turn : (ms more : List ℕ) (m : ℕ) → ms ≡ m ∷ more → numbers ms ≡ true → (m ≤ 1000000) × (numbers more ≡ true)
+unfolding numbers
+numbers_turn ms more m e h = let p = and_parts _ _ (sym (ap numbers e) ∙ h) in (leb-true m 1000000 p.0, p.1)
 
-pub kinds-all : (ms : List ℕ) (rs : List Row) (i : ℕ) → length rs ≤ i → kinds (drop i ms) (drop i rs) ≡ true
-kinds-all ms rs i h = ap (kinds (drop i ms)) (drop_all i rs h) ∙ kinds-none (drop i ms)
+pub numbers_at : (xs : List ℕ) (i : ℕ) → numbers xs ≡ true → get_or xs i 0 ≤ 1000000
+unfolding numbers
+numbers_at [] i h = omega arith
+numbers_at (x ∷ xs) zero h = leb-true x 1000000 (and_parts _ _ h).0
+numbers_at (x ∷ xs) (suc i) h = numbers_at xs i (and_parts _ _ h).1
 
-pub weigh-more : (ms : List ℕ) (rs : List Row) (f : Row → ℤ) (last : ℤ) (i : ℕ) (r : Row) → i < length ms → i < length rs → r ≡ get_or rs i r → weigh (drop i ms) (drop i rs) f last ≡ ((pos (get_or ms i 0) *ℤ f r) +ℤ weigh (drop (i + 1) ms) (drop (i + 1) rs) f last)
-unfolding weigh
-weigh-more ms rs f last i r h k e = ap₂ (λ x y. weigh x y f last) (drop_more ms i 0 h) (drop_more rs i r k ∙ ap (λ s. s ∷ drop (i + 1) rs) (sym e))
+module _ (f : Row → ℤ) (last : ℤ) where
+  pub weigh_turn : (ms ns : List ℕ) (rs ss : List Row) (m : ℕ) (r : Row) → ms ≡ m ∷ ns → rs ≡ r ∷ ss → weigh ms rs f last ≡ ((pos m *ℤ f r) +ℤ weigh ns ss f last)
+  unfolding weigh
+  weigh_turn ms ns rs ss m r d e = ap₂ (λ x y. weigh x y f last) d e
 
-pub weigh-all : (ms : List ℕ) (rs : List Row) (f : Row → ℤ) (last : ℤ) (i : ℕ) → i < length ms → length rs ≤ i → weigh (drop i ms) (drop i rs) f last ≡ pos (get_or ms i 0) *ℤ last
-unfolding weigh
-weigh-all ms rs f last i h k = ap₂ (λ x y. weigh x y f last) (drop_more ms i 0 h) (drop_all i rs k)
+  pub weigh_end : (ms : List ℕ) (rs : List Row) → length ms ≡ 1 → length rs ≡ 0 → weigh ms rs f last ≡ pos (get_or ms 0 0) *ℤ last
+  unfolding weigh
+  weigh_end [] rs h e = let no : ⊥ = omega arith in absurd no
+  weigh_end (m ∷ ms) [] h e = refl
+  weigh_end (m ∷ ms) (r ∷ rs) h e = let no : ⊥ = omega arith in absurd no

@@ -1,5 +1,5 @@
 -- Outcomes of a domain: good, or a fault with a reason and a depth.
-use Rattle.std.specs.Prelude.{ℕ, ◌+◌, min, List, Ok, Err, codes, Result}
+use Rattle.std.specs.Prelude.{ℕ, ◌+◌, min, List, ◌++◌, Ok, Err, codes, decimal, Result}
 use Rattle.domains.specs.declared.fault.Fault.{Fault}
 use Rattle.domains.specs.declared.fault.Reason.{Reason}
 use Rattle.domains.specs.declared.fault.Reason.TheVariants.{Shape, Number, Kind, Width, Sum, Case}
@@ -34,7 +34,15 @@ fault_of reason = record { reason = reason; depth = 0 }
 abbrev pub fault : Reason → Outcome
 fault reason = Err (fault_of reason)
 
+-- a fault of the domain below, as a layer passes it up
+abbrev pub deeper : Fault → Fault
+deeper f = record { reason = f.reason; depth = min (f.depth + 1) 255 }
+
 -- an outcome of the domain below, as a layer passes it up
 abbrev pub raised : Outcome → Outcome
 raised (Ok u) = Ok u
-raised (Err f) = Err (record { reason = f.reason; depth = min (f.depth + 1) 255 })
+raised (Err f) = Err (deeper f)
+
+-- how a fault is written: `5 sum depth 0`
+abbrev pub written : Fault → List ℕ
+written f = decimal (number f.reason) ++ (codes " " ++ (word f.reason ++ (codes " depth " ++ decimal f.depth)))

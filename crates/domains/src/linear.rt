@@ -1,5 +1,7 @@
 ghost use Rattle.std.specs.Prelude.{◌≡◌, ◌+◌, ◌≤◌, true, length, pos, negsuc};
-ghost use Rattle.domains.specs.Linear.{entry, negated, total, numbers, kinds, sums, fitting, linear};
+ghost use Rattle.ints.specs.Tests.{is_zero};
+ghost use Rattle.domains.specs.declared.linear.Column.TheVariants.{Coef};
+ghost use Rattle.domains.specs.Linear.{entry, negated, total, numbers, kind_ok, kinds, sums, fitting, linear};
 ghost use Rattle.domains.specs.Farkas.{linear-sound};
 ghost use Rattle.std.proofs.Common.{rules};
 
@@ -12,7 +14,7 @@ use rows::{Kind, QUANTITIES, Question, Row};
 pub const MOST_TIMES: u32 = 1_000_000;
 
 // A column of a list of rows: the coefficients of one quantity, or the bounds.
-#[derive(Clone, Copy)]
+#[derive(Clone, Copy, Debug, PartialEq, Eq)]
 pub enum Column {
     Coef(usize),
     Bound,
@@ -38,6 +40,13 @@ fn negated_entry(row: &Row, column: Column) -> i32
     }
 }
 
+// No multiplier but 0 goes with the kind unequal.
+fn kind_fits(m: u32, kind: Kind) -> bool
+    ensures { result ≡ kind_ok m kind }
+{
+    m == 0 || kind == Kind::AtMost
+}
+
 // A multiplier for each fact and one for the negated goal.
 fn fits_question(question: Question<'_>, certificate: &[u32]) -> bool
     ensures { result ≡ fitting question.entry.facts.now question.entry.goal.now certificate.now }
@@ -48,58 +57,60 @@ fn fits_question(question: Question<'_>, certificate: &[u32]) -> bool
 fn numbers_fit(certificate: &[u32]) -> bool
     ensures { result ≡ numbers certificate.now }
 {
-    for m in certificate {
-        if *m > MOST_TIMES {
-            return false;
-        }
-    }
-    true
+    certificate.iter().all(|m| *m <= MOST_TIMES)
 }
 
-// No multiplier but 0 at an unequal fact.
-fn kinds_fit(facts: &[Row], certificate: &[u32]) -> bool
-    requires { length facts.now ≤ length certificate.now }
-    ensures { result ≡ kinds certificate.now facts.now }
-{
-    for (i, fact) in facts.iter().enumerate() {
-        if certificate[i] != 0 && matches!(fact.kind(), Kind::Unequal) {
-            return false;
-        }
-    }
-    true
+// A question and its multipliers: one for each fact, a last one for the negated goal, none above the most.
+#[derive(Clone, Copy)]
+struct Weighted<'a> {
+    question: Question<'a>,
+    certificate: &'a [u32],
+    ghost few: { length question.facts.now ≤ 24 },
+    ghost one_more: { length certificate.now ≡ length question.facts.now + 1 },
+    ghost fit: { numbers certificate.now ≡ true },
 }
 
-// The weighted sum of a column.
-fn column_total(facts: &[Row], goal: &Row, certificate: &[u32], column: Column) -> i64
-    requires few { length facts.now ≤ 24 }
-    requires one_more { length certificate.now ≡ length facts.now + 1 }
-    requires fit { numbers certificate.now ≡ true }
-    ensures { result ≡ total facts.now goal.now certificate.now column }
-{
-    let mut sum = 0i64;
-    for (i, fact) in facts.iter().enumerate() {
-        sum += times(certificate[i], entry_of(fact, column));
+impl Weighted<'_> {
+    // No multiplier but 0 at an unequal fact.
+    fn kinds_fit(self) -> bool
+        ensures { result ≡ kinds self.entry.certificate.now self.entry.question.facts.now }
+    {
+        self.question
+            .facts
+            .iter()
+            .zip(self.certificate)
+            .all(|(fact, m)| kind_fits(*m, fact.kind()))
     }
-    sum + times(certificate[facts.len()], negated_entry(goal, column))
-}
 
-// Every quantity cancels, and what is left reads 0 < 0.
-fn sums_refute(facts: &[Row], goal: &Row, certificate: &[u32]) -> bool
-    requires few { length facts.now ≤ 24 }
-    requires one_more { length certificate.now ≡ length facts.now + 1 }
-    requires fit { numbers certificate.now ≡ true }
-    ensures { result ≡ sums facts.now goal.now certificate.now }
-{
-    for j in 0..QUANTITIES {
-        if column_total(facts, goal, certificate, Column::Coef(j)) != 0 {
-            return false;
+    // The weighted sum of a column.
+    fn total(self, column: Column) -> i64
+        ensures { result ≡ total self.entry.question.facts.now self.entry.question.goal.now self.entry.certificate.now column }
+    {
+        let facts = self.question.facts;
+        let mut sum = 0i64;
+        for (fact, m) in facts.iter().zip(self.certificate) {
+            sum += times(*m, entry_of(fact, column));
         }
+        let last = self.certificate[facts.len()];
+        sum + times(last, negated_entry(self.question.goal, column))
     }
-    column_total(facts, goal, certificate, Column::Bound) < 0
+
+    fn cancels(self, j: usize) -> bool
+        ensures { result ≡ is_zero (total self.entry.question.facts.now self.entry.question.goal.now self.entry.certificate.now (Coef j)) }
+    {
+        self.total(Column::Coef(j)) == 0
+    }
+
+    // Every quantity cancels, and what is left reads 0 < 0.
+    fn sums_refute(self) -> bool
+        ensures { result ≡ sums self.entry.question.facts.now self.entry.question.goal.now self.entry.certificate.now }
+    {
+        (0..QUANTITIES).all(|j| self.cancels(j)) && self.total(Column::Bound) < 0
+    }
 }
 
 // The domain of Farkas' lemma: a weighted sum of the facts and the negated goal that cannot hold.
-#[derive(Clone, Copy)]
+#[derive(Clone, Copy, Debug, PartialEq, Eq)]
 pub struct Linear;
 
 impl Domain for Linear {
@@ -128,10 +139,14 @@ impl Domain for Linear {
         if !numbers_fit(certificate) {
             return Err(Fault::new(Reason::Number));
         }
-        if !kinds_fit(question.facts, certificate) {
+        let weighted = Weighted {
+            question,
+            certificate,
+        };
+        if !weighted.kinds_fit() {
             return Err(Fault::new(Reason::Kind));
         }
-        if !sums_refute(question.facts, question.goal, certificate) {
+        if !weighted.sums_refute() {
             return Err(Fault::new(Reason::Sum));
         }
         Ok(())

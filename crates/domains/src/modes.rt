@@ -1,5 +1,4 @@
-ghost use Rattle.std.specs.Prelude.{◌≡◌, ℕ, ◌<◌, ◌≤◌, true, false, length, get_or, pos, slice_index_or};
-ghost use Rattle.ints.specs.Tests.{count_below};
+ghost use Rattle.std.specs.Prelude.{◌≡◌, ℕ, ◌<◌, ◌≤◌, true, false, length, pos, slice_index_or};
 ghost use Rattle.rows.specs.Meaning.{value};
 ghost use Rattle.rows.specs.Testing.{meets, meets_all};
 ghost use Rattle.domains.specs.Modes.{occurs_in, occurs, width, at, breaks, broken, modes, Decides};
@@ -10,6 +9,7 @@ use crate::domain::Domain;
 use crate::fault::{Fault, Reason};
 use ints::times;
 use rows::{Kind, QUANTITIES, Question, Row};
+use std::array;
 
 // A question in which more quantities occur is too wide.
 pub const MOST_WIDTH: usize = 4;
@@ -22,8 +22,8 @@ fn value_at(row: &Row, point: &[u8; 16]) -> i64
     ensures { result ≡ value row.now (at point.now) }
 {
     let mut sum = 0i64;
-    for j in 0..QUANTITIES {
-        sum += times(u32::from(point[j]), row.coef(j));
+    for (j, x) in point.iter().enumerate() {
+        sum += times(u32::from(*x), row.coef(j));
     }
     sum
 }
@@ -40,86 +40,80 @@ fn met(row: &Row, point: &[u8; 16]) -> bool
 fn all_met(rows: &[Row], point: &[u8; 16]) -> bool
     ensures { result ≡ meets_all (at point.now) rows.now }
 {
-    for row in rows {
-        if !met(row, point) {
-            return false;
-        }
-    }
-    true
+    rows.iter().all(|row| met(row, point))
 }
 
 // These values meet all facts and break the goal.
-fn breaks_goal(facts: &[Row], goal: &Row, point: &[u8; 16]) -> bool
-    ensures { result ≡ breaks facts.now goal.now (at point.now) }
+fn breaks_goal(question: Question<'_>, point: &[u8; 16]) -> bool
+    ensures { result ≡ breaks question.entry.facts.now question.entry.goal.now (at point.now) }
 {
-    all_met(facts, point) && !met(goal, point)
+    all_met(question.facts, point) && !met(question.goal, point)
 }
 
 fn any_coef(rows: &[Row], j: usize) -> bool
     ensures { result ≡ occurs_in j rows.now }
 {
-    for row in rows {
-        if row.coef(j) != 0 {
-            return true;
+    rows.iter().any(|row| row.coef(j) != 0)
+}
+
+fn occurs_at(question: Question<'_>, j: usize) -> bool
+    ensures { result ≡ occurs question.entry.facts.now question.entry.goal.now j }
+{
+    question.goal.coef(j) != 0 || any_coef(question.facts, j)
+}
+
+// Which of the quantities of a question occur.
+#[derive(Clone, Copy)]
+struct Occurring<'a> {
+    question: Question<'a>,
+    flags: [bool; 16],
+    ghost flagged: { (j : ℕ) → j < 16 → slice_index_or flags j false ≡ occurs question.facts.now question.goal.now j },
+}
+
+impl<'a> Occurring<'a> {
+    fn new(question: Question<'a>) -> Occurring<'a>
+        ensures facts { result.question.facts.now ≡ question.entry.facts.now }
+        ensures goal { result.question.goal.now ≡ question.entry.goal.now }
+    {
+        Occurring {
+            question,
+            flags: array::from_fn(|j| occurs_at(question, j)),
         }
     }
-    false
-}
 
-fn occurs_at(facts: &[Row], goal: &Row, j: usize) -> bool
-    ensures { result ≡ occurs facts.now goal.now j }
-{
-    goal.coef(j) != 0 || any_coef(facts, j)
-}
-
-// Which of the quantities occur.
-fn occurring(facts: &[Row], goal: &Row) -> [bool; 16]
-    ensures { (j : ℕ) → j < 16 → slice_index_or result j false ≡ occurs facts.now goal.now j }
-{
-    let mut flags = [false; 16];
-    for j in 0..QUANTITIES {
-        flags[j] = occurs_at(facts, goal, j);
+    // How many occur.
+    fn count(&self) -> usize
+        ensures { result ≡ width self.now.question.facts.now self.now.question.goal.now }
+    {
+        self.flags.iter().filter(|flag| **flag).count()
     }
-    flags
-}
 
-fn count(flags: &[bool; 16]) -> usize
-    ensures { result ≡ count_below 16 (λ j. get_or flags.now j false) }
-{
-    let mut n = 0;
-    for j in 0..QUANTITIES {
-        if flags[j] {
-            n += 1;
+    // Some values of the occurring quantities below n, set in the point, break the goal.
+    fn some_break(&self, n: usize, point: [u8; 16]) -> bool
+        requires { n ≤ 16 }
+        ensures { result ≡ broken self.now.question.facts.now self.now.question.goal.now n point }
+    {
+        if n == 0 {
+            return breaks_goal(self.question, &point);
         }
-    }
-    n
-}
-
-// Some values of the occurring quantities below n, set in the point, break the goal.
-fn some_break(facts: &[Row], goal: &Row, flags: &[bool; 16], n: usize, point: [u8; 16]) -> bool
-    requires below { n ≤ 16 }
-    requires flagged { (j : ℕ) → j < 16 → slice_index_or flags.now j false ≡ occurs facts.now goal.now j }
-    ensures { result ≡ broken facts.now goal.now n point }
-{
-    if n == 0 {
-        return breaks_goal(facts, goal, &point);
-    }
-    let j = n - 1;
-    if !flags[j] {
-        return some_break(facts, goal, flags, j, point);
-    }
-    for v in 0..TOP + 1 {
-        let mut next = point;
-        next[j] = v;
-        if some_break(facts, goal, flags, j, next) {
-            return true;
+        let j = n - 1;
+        if !self.flags[j] {
+            return self.some_break(j, point);
         }
+        // The recursion stands in a loop: a closure would be a part of it, and owe that `any` may call it at each turn.
+        for v in 0..=TOP {
+            let mut next = point;
+            next[j] = v;
+            if self.some_break(j, next) {
+                return true;
+            }
+        }
+        false
     }
-    false
 }
 
 // The domain of small sizes: it goes by every assignment of 0 to 15.
-#[derive(Clone, Copy)]
+#[derive(Clone, Copy, Debug, PartialEq, Eq)]
 pub struct Modes;
 
 impl Domain for Modes {
@@ -148,11 +142,11 @@ impl Domain for Modes {
         if !question.well_shaped() || !certificate.is_empty() {
             return Err(Fault::new(Reason::Shape));
         }
-        let flags = occurring(question.facts, question.goal);
-        if count(&flags) > MOST_WIDTH {
+        let occurring = Occurring::new(question);
+        if occurring.count() > MOST_WIDTH {
             return Err(Fault::new(Reason::Width));
         }
-        if some_break(question.facts, question.goal, &flags, QUANTITIES, [0; 16]) {
+        if occurring.some_break(QUANTITIES, [0; 16]) {
             return Err(Fault::new(Reason::Case));
         }
         Ok(())

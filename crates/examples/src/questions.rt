@@ -1,10 +1,11 @@
-use anyhow::anyhow;
+use anyhow::Context;
 use asking::linear_certificate;
-use domains::{Fault, Linear, Modes, verified};
+use domains::{Fault, Linear, Modes, Reason, verified};
 use notation::{read_row, read_u32};
 use provers::MOST_NUMBERS;
 use rows::{Question, Row};
 use std::alloc::Global;
+use std::fmt;
 
 // What a question is put to.
 #[derive(Clone, Copy)]
@@ -14,24 +15,46 @@ pub enum Asked {
     FourierMotzkin,
 }
 
-impl Asked {
-    pub(crate) fn word(self) -> &'static str {
-        match self {
+impl fmt::Display for Asked {
+    fn fmt<W: fmt::Write>(&self, f: &mut fmt::Formatter<W>) -> fmt::Result {
+        f.write_str(match self {
             Asked::Linear => "linear",
             Asked::Modes => "modes",
             Asked::FourierMotzkin => "fm",
-        }
+        })
     }
 }
 
-// A question with a certificate, and the word of the answer that must come; facts are separated by commas.
+// What came: an outcome of a domain, or how many numbers a prover wrote.
+#[derive(Clone, Copy, PartialEq)]
+pub enum Got {
+    Outcome(Result<(), Fault>),
+    Proposal(Option<usize>),
+}
+
+impl fmt::Display for Got {
+    fn fmt<W: fmt::Write>(&self, f: &mut fmt::Formatter<W>) -> fmt::Result {
+        f.write_str(match self {
+            Got::Outcome(Ok(())) => "good",
+            Got::Outcome(Err(fault)) => fault.reason.word(),
+            Got::Proposal(Some(_)) => "proposal",
+            Got::Proposal(None) => "none",
+        })
+    }
+}
+
+const GOOD: Got = Got::Outcome(Ok(()));
+
+const UNPROPOSED: Got = Got::Proposal(None);
+
+// A question with a certificate, and the answer that must come; facts are separated by commas.
 #[derive(Clone, Copy)]
 pub struct Example {
     pub asked: Asked,
     pub facts: &'static str,
     pub goal: &'static str,
     pub certificate: &'static str,
-    pub outcome: &'static str,
+    pub outcome: Got,
 }
 
 pub const EXAMPLES: [Example; 9] = [
@@ -40,63 +63,75 @@ pub const EXAMPLES: [Example; 9] = [
         facts: "-1*q0 <= 0",
         goal: "-1*q0 <= 0",
         certificate: "1 1",
-        outcome: "good",
+        outcome: GOOD,
     },
     Example {
         asked: Asked::Linear,
         facts: "-1*q0 <= 0",
         goal: "-1*q0 <= 0",
         certificate: "1 2",
-        outcome: "sum",
+        outcome: Got::Outcome(Err(Fault {
+            reason: Reason::Sum,
+            depth: 0,
+        })),
     },
     Example {
         asked: Asked::Linear,
         facts: "-1*q0 <= 0",
         goal: "-1*q0 <= 0",
         certificate: "1",
-        outcome: "shape",
+        outcome: Got::Outcome(Err(Fault {
+            reason: Reason::Shape,
+            depth: 0,
+        })),
     },
     Example {
         asked: Asked::Linear,
         facts: "-1*q0 <= 0",
         goal: "-1*q0 <= 0",
         certificate: "1000000 1000000",
-        outcome: "good",
+        outcome: GOOD,
     },
     Example {
         asked: Asked::Linear,
         facts: "-1*q0 <= 0",
         goal: "-1*q0 <= 0",
         certificate: "1000001 1000001",
-        outcome: "number",
+        outcome: Got::Outcome(Err(Fault {
+            reason: Reason::Number,
+            depth: 0,
+        })),
     },
     Example {
         asked: Asked::Modes,
         facts: "2*q0 <= 1,-2*q0 <= -1",
         goal: "0 <= -1",
         certificate: "",
-        outcome: "good",
+        outcome: GOOD,
     },
     Example {
         asked: Asked::Modes,
         facts: "",
         goal: "1*q0 <= 15",
         certificate: "",
-        outcome: "good",
+        outcome: GOOD,
     },
     Example {
         asked: Asked::Modes,
         facts: "",
         goal: "1*q0 <= 14",
         certificate: "",
-        outcome: "case",
+        outcome: Got::Outcome(Err(Fault {
+            reason: Reason::Case,
+            depth: 0,
+        })),
     },
     Example {
         asked: Asked::FourierMotzkin,
         facts: "2*q0 <= 1,-2*q0 <= -1",
         goal: "0 <= -1",
         certificate: "",
-        outcome: "none",
+        outcome: UNPROPOSED,
     },
 ];
 
@@ -106,10 +141,7 @@ fn rows_of(heap: Global, text: &str) -> anyhow::Result<Vec<Row>> {
         return Ok(rows);
     }
     for part in text.split(',') {
-        match read_row(heap, part) {
-            Ok(row) => rows.push(row)?,
-            Err(_) => return Err(anyhow!("an example's row is not written as a row")),
-        }
+        rows.push(read_row(heap, part).context("an example's row is not written as a row")?)?;
     }
     Ok(rows)
 }
@@ -120,30 +152,12 @@ fn numbers_of(heap: Global, text: &str) -> anyhow::Result<Vec<u32>> {
         return Ok(numbers);
     }
     for part in text.split(' ') {
-        match read_u32(heap, part) {
-            Ok(n) => numbers.push(n)?,
-            Err(_) => return Err(anyhow!(
-                "an example's certificate has something else than numbers"
-            )),
-        }
+        let n = read_u32(heap, part).context(
+            "an example's certificate has something else than numbers",
+        )?;
+        numbers.push(n)?;
     }
     Ok(numbers)
-}
-
-// What came: an outcome of a domain, or how many numbers a prover wrote.
-#[derive(Clone, Copy)]
-pub enum Got {
-    Outcome(Result<(), Fault>),
-    Proposal(Option<usize>),
-}
-
-pub(crate) fn word_of(got: Got) -> &'static str {
-    match got {
-        Got::Outcome(Ok(())) => "good",
-        Got::Outcome(Err(fault)) => fault.reason.word(),
-        Got::Proposal(Some(_)) => "proposal",
-        Got::Proposal(None) => "none",
-    }
 }
 
 fn put(asked: Asked, question: Question<'_>, certificate: &[u32]) -> Got {
@@ -161,9 +175,7 @@ pub(crate) fn answer_to(heap: Global, example: Example) -> anyhow::Result<Got> {
     let facts = rows_of(heap, example.facts)?;
     let goals = rows_of(heap, example.goal)?;
     let numbers = numbers_of(heap, example.certificate)?;
-    let Some(goal) = goals.first() else {
-        return Err(anyhow!("an example has no goal"));
-    };
+    let goal = goals.first().context("an example has no goal")?;
     let question = Question {
         facts: facts.as_slice(),
         goal,

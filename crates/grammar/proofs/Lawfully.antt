@@ -1,12 +1,14 @@
 -- What the parsers answer is the grammar's sheet, or there is none.
-use Rattle.std.proofs.Common.{◌≡◌, ℕ, max, List, sym, ◌∙◌, subst, arith}
+use Rattle.std.proofs.Common.{◌≡◌, ℕ, ◌≤◌, max, List, length, Err, Result, sym, ◌∙◌, subst, arith}
 use Rattle.letters.specs.declared.token.Token.{Token}
 use Rattle.grammar.specs.declared.node.Node.{Node}
+use Rattle.grammar.specs.declared.unread.Unread.{Unread}
+use Rattle.grammar.specs.declared.unread.Unread.TheVariants.{Fault}
 use Rattle.grammar.specs.Parsers.{Look, fault, look_in}
 use Rattle.grammar.specs.Sheets.{sheet_s}
 use Rattle.grammar.specs.Trees.{rules_to}
-use Rattle.grammar.specs.Parsed.{source_of, Sheeted, Faulted}
-use Rattle.grammar.specs.Lawful.{OnlySheet, Begun, NoSheet}
+use Rattle.grammar.specs.Parsed.{source_of, Sheeted, Faulted, Parsed}
+use Rattle.grammar.specs.Lawful.{OnlySheet, Begun, NoSheet, Lawful}
 use Rattle.grammar.proofs.Inverts.{no-fault, done-val}
 use Rattle.grammar.proofs.Sound.{sheet-sound}
 use Rattle.grammar.proofs.Whole.{sheet-full}
@@ -46,3 +48,6 @@ no-sheet ts e w h = record {
       let there : sheet_s f m 0 ≡ fault h.faulty = (sheet-good f).same l m 0 (subst (λ a. Seen a l m) (sym here) u) ∙ here in
       no-fault (sym there ∙ c.1 f (omega arith));
 }
+
+pub refused : (r : Result ℕ Unread) (ts : List Token) (e w room : ℕ) (ns : List Node) → r ≡ Err (Fault w) → length ts ≤ room → Faulted ts e w → Parsed r ts e room ns × Lawful r ts e ns
+refused r ts e w room ns q fits h = subst (λ (r : Result ℕ Unread). Parsed r ts e room ns × Lawful r ts e ns) (sym q) (record { said = (fits, h) }, no-sheet ts e w h)

@@ -2,6 +2,7 @@
 use Rattle.std.proofs.Common.{◌≡◌, ℕ, Bool, true, List, length, Result, refl, ap, ◌∙◌}
 use Rattle.letters.specs.declared.kind.Kind.{Kind}
 use Rattle.letters.specs.declared.kind.Kind.TheVariants.{Comma, Times}
+use Rattle.grammar.specs.declared.misplaced.Misplaced.{Misplaced}
 use Rattle.grammar.specs.Raw.{Condition, Param}
 use Rattle.grammar.specs.Parsers.{is_a, done, seq}
 use Rattle.grammar.specs.Sheets.{sum_sign, conditions_s, optional_s, params_s, expr_by, atom_by, args_by, calc_on, arg_on, expr_s, sum_s, sum_from_s, product_s, product_from_s, args_s, args_from_s, atom_s}
@@ -12,7 +13,7 @@ use Rattle.grammar.proofs.Laws.{fuelled}
 use Rattle.grammar.proofs.Loops.{Chained}
 use Rattle.grammar.proofs.Rereads.{conditions-came, optional-came, params-came}
 
-module _ {r : Result ℕ ℕ} {s s' : Held} where
+module _ {r : Result ℕ Misplaced} {s s' : Held} where
   pub expr-by : Went Stands r (λ f. expr_by (sum_s f) (expr_s f)) s s' → Went Stands r expr_s s s'
   unfolding expr_s
   expr-by w = fuelled expr_s _ (λ f. refl) w

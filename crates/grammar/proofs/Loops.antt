@@ -1,6 +1,7 @@
 -- Loops: while the token at hand is such a one, past it and one step more.
 use Rattle.std.proofs.Common.{◌≡◌, ℕ, suc, ◌≤◌, Bool, true, false, Ok, Err, Result, sym, refl, arith}
 use Rattle.letters.specs.declared.token.Token.{Token}
+use Rattle.grammar.specs.declared.misplaced.Misplaced.{Misplaced}
 use Rattle.grammar.specs.Parsers.{P, next, turn, chain}
 use Rattle.grammar.specs.Held.{Held, look, token_count, Taken, Went}
 use Rattle.grammar.proofs.Laws.{fuelled, on-yes, on-no, seq-ok, seq-err, gives}
@@ -9,7 +10,7 @@ use Rattle.grammar.proofs.Laws.{fuelled, on-yes, on-no, seq-ok, seq-err, gives}
 pub record Now {A X : Type 0} (R : Held → A → X → Type 0) (rest : ℕ → X → P X) (x0 : X) (a : A) (s0 s : Held) : Type 0 where
   pub val : X
   pub rel : R s a val
-  pub on : (r : Result A ℕ) (s' : Held) → Went R r (λ f. rest f val) s s' → Went R r (λ f. rest f x0) s0 s'
+  pub on : (r : Result A Misplaced) (s' : Held) → Went R r (λ f. rest f val) s s' → Went R r (λ f. rest f x0) s0 s'
 
 pub record Ran {A X : Type 0} (K : Held → Held → Type 0) (R : Held → A → X → Type 0) (rest : ℕ → X → P X) (a0 a : A) (s0 s : Held) : Type 0 where
   pub size : token_count s ≡ token_count s0
@@ -40,7 +41,7 @@ module _ {A X : Type 0} {K : Held → Held → Type 0} {R : Held → A → X →
         record { val = u.told.val; rel = u.told.rel; on = λ r s' z. n.on r s' (fuelled (λ f. rest f n.val) _ (λ f. ch.by f n.val) (on-yes _ _ _ (sym e) (seq-ok _ w (seq-ok rest u z)))) };
   }
 
-  pub turn-err : {e : ℕ} {s1 s2 : Held} {t : ℕ} → Ran K R rest a0 a s0 s → true ≡ b (look s s.at) → (w : Went Taken (Ok t) (λ _. next) s s1) → ((x : X) → R s a x → Went R (Err e) (λ f. step f x w.told.val) s1 s2) → (x0 : X) → R s0 a0 x0 → Went R (Err e) (λ f. rest f x0) s0 s2
+  pub turn-err : {e : Misplaced} {s1 s2 : Held} {t : ℕ} → Ran K R rest a0 a s0 s → true ≡ b (look s s.at) → (w : Went Taken (Ok t) (λ _. next) s s1) → ((x : X) → R s a x → Went R (Err e) (λ f. step f x w.told.val) s1 s2) → (x0 : X) → R s0 a0 x0 → Went R (Err e) (λ f. rest f x0) s0 s2
   turn-err i e w v x0 h =
       let n = i.so x0 h in
       n.on _ _ (fuelled (λ f. rest f n.val) _ (λ f. ch.by f n.val) (on-yes _ _ _ (sym e) (seq-ok _ w (seq-err rest (v n.val n.rel)))))

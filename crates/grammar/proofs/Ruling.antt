@@ -2,6 +2,7 @@
 use Rattle.std.proofs.Common.{◌≡◌, ℕ, suc, true, false, [], ◌∷◌, ◌++◌, Ok, Err, sym, refl, ap, ◌∙◌, subst}
 use Rattle.letters.specs.declared.kind.Kind.TheVariants.{Rule, End}
 use Rattle.letters.specs.declared.token.Token.{Token}
+use Rattle.grammar.specs.declared.misplaced.Misplaced.{Misplaced}
 use Rattle.grammar.specs.declared.node.Node.{Node}
 use Rattle.grammar.specs.Raw.{Sheet}
 use Rattle.grammar.specs.Parsers.{Look, Ans, done, fault, is_a, chain}
@@ -29,8 +30,8 @@ module _ {s0 s s1 : Held} {t : ℕ} (u : Ruling s0 s) (e : true ≡ is_a Rule (l
   tok : look s1 t ≡ look s s.at
   tok = ap (λ c. look_of c t) b.same ∙ ap (look s) q
 
-  pub ruled-err : {w : ℕ} {s2 : Held} → Went RuleStands (Err w) (rule_s (look s1 t)) s1 s2 → Failed w sheet_s s0
-  ruled-err {w} v =
+  pub ruled-err : {m : Misplaced} {s2 : Held} → Went RuleStands (Err m) (rule_s (look s1 t)) s1 s2 → Failed m.place sheet_s s0
+  ruled-err {m} v =
       let f = v.told in
       let c0 : Comes (rule_s (look s1 t)) (look s) (suc s.at) (fault f.faulty) = subst (λ (l : Look). Comes (rule_s (look s1 t)) l (suc s.at) (fault f.faulty)) (ap look_of b.same) (subst (λ i. Comes (rule_s (look s1 t)) (look s1) i (fault f.faulty)) b.at f.came) in
       let c1 : Comes (rule_s (look s s.at)) (look s) (suc s.at) (fault f.faulty) = subst (λ (x : Token). Comes (rule_s x) (look s) (suc s.at) (fault f.faulty)) tok c0 in

@@ -1,6 +1,7 @@
 -- Where a parse stands, and what a step of it does.
 use Rattle.std.specs.Prelude.{◌≡◌, ℕ, suc, ◌+◌, ◌<◌, ◌≤◌, List, [], ◌∷◌, ◌++◌, length, take, Some, Ok, Err, Result}
 use Rattle.letters.specs.declared.token.Token.{Token}
+use Rattle.grammar.specs.declared.misplaced.Misplaced.{Misplaced}
 use Rattle.grammar.specs.declared.node.Node.{Node}
 use Rattle.grammar.specs.declared.parser.Parser.{Parser}
 use Rattle.grammar.specs.Raw.{Expr, Args, Rule, Sheet}
@@ -15,7 +16,7 @@ pub record Held : Type 0 where
   pub lender : ℕ
 
 abbrev pub held : Parser → Held
-held p = record { source = record { tokens = p.tokens.now; end = p.end }; at = p.at; nodes = take p.count p.nodes.now; lender = p.nodes.ghost_name }
+held p = record { source = record { tokens = p.source.tokens.now; end = p.source.end }; at = p.at; nodes = take p.count p.nodes.now; lender = p.nodes.ghost_name }
 
 abbrev pub look : Held → Look
 look s = look_of s.source
@@ -67,12 +68,12 @@ pub record Failed {X : Type 0} (w : ℕ) (p : ℕ → P X) (s : Held) : Type 0 w
   pub came : Comes p (look s) s.at (fault faulty)
   pub place : w ≡ (look s faulty).place
 
-abbrev pub Told : {A X : Type 0} → (Held → A → X → Type 0) → Result A ℕ → (ℕ → P X) → Held → Held → Type 0
+abbrev pub Told : {A X : Type 0} → (Held → A → X → Type 0) → Result A Misplaced → (ℕ → P X) → Held → Held → Type 0
 Told R (Ok a) p s s' = Fine R a p s s'
-Told R (Err w) p s s' = Failed w p s
+Told R (Err e) p s s' = Failed e.place p s
 
 -- a step of the code does what the parser p says
-pub record Went {A X : Type 0} (R : Held → A → X → Type 0) (r : Result A ℕ) (p : ℕ → P X) (s s' : Held) : Type 0 where
+pub record Went {A X : Type 0} (R : Held → A → X → Type 0) (r : Result A Misplaced) (p : ℕ → P X) (s s' : Held) : Type 0 where
   pub lender : s'.lender ≡ s.lender
   pub size : token_count s' ≡ token_count s
   pub ahead : s.at ≤ s'.at
@@ -95,9 +96,9 @@ abbrev pub OwedTwo : Held → Held → Type 0
 OwedTwo s s' = length s'.nodes + s.at ≤ suc (suc (length s.nodes + s'.at))
 
 -- this holds where there was no fault
-abbrev pub OnOk : {A : Type 0} → Result A ℕ → Type 0 → Type 0
+abbrev pub OnOk : {A : Type 0} → Result A Misplaced → Type 0 → Type 0
 OnOk (Ok a) K = K
-OnOk (Err w) K = Unit {0}
+OnOk (Err e) K = Unit {0}
 
 -- past one token
 pub record Bumped (s s' : Held) : Type 0 where

@@ -1,6 +1,7 @@
 -- What parsing a whole text says.
 use Rattle.std.specs.Prelude.{◌≡◌, ℕ, ◌<◌, ◌≤◌, List, length, Ok, Err, Result}
 use Rattle.letters.specs.declared.token.Token.{Token}
+use Rattle.grammar.specs.declared.misplaced.Misplaced.{Misplaced}
 use Rattle.grammar.specs.declared.node.Node.{Node}
 use Rattle.grammar.specs.declared.unread.Unread.{Unread}
 use Rattle.grammar.specs.declared.unread.Unread.TheVariants.{Full, Fault}
@@ -38,10 +39,10 @@ pub record Done (s s' : Held) : Type 0 where
   pub came : Comes sheet_s (look s) s.at (done (sheet s') last)
   pub same : s'.source ≡ s.source
 
-abbrev pub RuledSo : Result (Unit {0}) ℕ → Held → Held → Type 0
+abbrev pub RuledSo : Result (Unit {0}) Misplaced → Held → Held → Type 0
 RuledSo (Ok u) s s' = Done s s'
-RuledSo (Err w) s s' = Failed w sheet_s s
+RuledSo (Err e) s s' = Failed e.place sheet_s s
 
-pub record Ruled (r : Result (Unit {0}) ℕ) (s s' : Held) : Type 0 where
+pub record Ruled (r : Result (Unit {0}) Misplaced) (s s' : Held) : Type 0 where
   pub lender : s'.lender ≡ s.lender
   pub so : RuledSo r s s'

@@ -1,16 +1,17 @@
-// Expressions, by recursive descent. Each makes its node after its parts and gives its position.
+// Expressions, by recursive descent. Each makes its node after its parts and gives its position. `sum` and `product` have a loop each: a parameter for what they join would have to carry the clauses of a walk that calls it back.
 ghost use Rattle.std.specs.Prelude.{suc, ◌<◌, true, length};
 ghost use Rattle.grammar.specs.Sheets.{expr_s, sum_s, product_s, atom_s, args_s, name_by, bracket_by, let_by, if_by, put_by, arg_on, conditions_s};
 ghost use Rattle.grammar.specs.Raw.{Args};
 ghost use Rattle.grammar.specs.Held.{held, look, Went, Stands, ArgsStand, Moved, Paid, Owed, OwedTwo, OnOk};
 
+use crate::misplaced::Misplaced;
 use crate::node::Node;
 use crate::parser::Parser;
 use letters::Kind;
 
 impl Parser<'_, '_> {
     #[cycle(args_argument_atom_binding_bracket_choice_expr_named_product_putting_sum)]
-    pub fn expr(&mut self) -> Result<usize, usize>
+    pub fn expr(&mut self) -> Result<usize, Misplaced>
         ensures went { Went Stands result expr_s (held self.old) (held self.new) }
         ensures paid { Paid (held self.old) (held self.new) }
     {
@@ -30,7 +31,7 @@ impl Parser<'_, '_> {
 
     // What follows `let`.
     #[cycle(args_argument_atom_binding_bracket_choice_expr_named_product_putting_sum)]
-    fn binding(&mut self, token: usize) -> Result<usize, usize>
+    fn binding(&mut self, token: usize) -> Result<usize, Misplaced>
         ensures went { Went Stands result (λ f. let_by (expr_s f) (look (held self.old) token)) (held self.old) (held self.new) }
         ensures paid { Paid (held self.old) (held self.new) }
     {
@@ -39,12 +40,17 @@ impl Parser<'_, '_> {
         let bound = self.expr()?;
         self.take(Kind::In)?;
         let body = self.expr()?;
-        Ok(self.push(Node::Bind(token, name, bound, body)))
+        Ok(self.push(Node::Bind {
+            keyword: token,
+            name,
+            bound,
+            body,
+        }))
     }
 
     // What follows `if`.
     #[cycle(args_argument_atom_binding_bracket_choice_expr_named_product_putting_sum)]
-    fn choice(&mut self, token: usize) -> Result<usize, usize>
+    fn choice(&mut self, token: usize) -> Result<usize, Misplaced>
         ensures went { Went Stands result (λ f. if_by (sum_s f) (expr_s f) (look (held self.old) token)) (held self.old) (held self.new) }
         ensures paid { Paid (held self.old) (held self.new) }
     {
@@ -55,12 +61,19 @@ impl Parser<'_, '_> {
         let met = self.expr()?;
         self.take(Kind::Else)?;
         let unmet = self.expr()?;
-        Ok(self.push(Node::Test(token, sign, left, right, met, unmet)))
+        Ok(self.push(Node::Test {
+            keyword: token,
+            sign,
+            left,
+            right,
+            met,
+            unmet,
+        }))
     }
 
     // What follows `put`.
     #[cycle(args_argument_atom_binding_bracket_choice_expr_named_product_putting_sum)]
-    fn putting(&mut self, token: usize) -> Result<usize, usize>
+    fn putting(&mut self, token: usize) -> Result<usize, Misplaced>
         ensures went { Went Stands result (λ f. put_by (sum_s f) (expr_s f) (look (held self.old) token)) (held self.old) (held self.new) }
         ensures paid { Paid (held self.old) (held self.new) }
     {
@@ -72,11 +85,17 @@ impl Parser<'_, '_> {
         let value = self.sum()?;
         self.take(Kind::In)?;
         let rest = self.expr()?;
-        Ok(self.push(Node::Put(token, name, index, value, rest)))
+        Ok(self.push(Node::Put {
+            keyword: token,
+            name,
+            index,
+            value,
+            rest,
+        }))
     }
 
     #[cycle(args_argument_atom_binding_bracket_choice_expr_named_product_putting_sum)]
-    fn sum(&mut self) -> Result<usize, usize>
+    fn sum(&mut self) -> Result<usize, Misplaced>
         ensures went { Went Stands result sum_s (held self.old) (held self.new) }
         ensures paid { Paid (held self.old) (held self.new) }
     {
@@ -84,13 +103,13 @@ impl Parser<'_, '_> {
         while self.sees_sum_sign() {
             let sign = self.bump();
             let right = self.product()?;
-            left = self.push(Node::Calc(sign, left, right));
+            left = self.push(Node::Calc { sign, left, right });
         }
         Ok(left)
     }
 
     #[cycle(args_argument_atom_binding_bracket_choice_expr_named_product_putting_sum)]
-    fn product(&mut self) -> Result<usize, usize>
+    fn product(&mut self) -> Result<usize, Misplaced>
         ensures went { Went Stands result product_s (held self.old) (held self.new) }
         ensures paid { Paid (held self.old) (held self.new) }
     {
@@ -98,19 +117,19 @@ impl Parser<'_, '_> {
         while self.sees(Kind::Times) {
             let sign = self.bump();
             let right = self.atom()?;
-            left = self.push(Node::Calc(sign, left, right));
+            left = self.push(Node::Calc { sign, left, right });
         }
         Ok(left)
     }
 
     #[cycle(args_argument_atom_binding_bracket_choice_expr_named_product_putting_sum)]
-    fn atom(&mut self) -> Result<usize, usize>
+    fn atom(&mut self) -> Result<usize, Misplaced>
         ensures went { Went Stands result atom_s (held self.old) (held self.new) }
         ensures paid { Paid (held self.old) (held self.new) }
     {
         if self.sees(Kind::Numeral) {
             let token = self.bump();
-            Ok(self.push(Node::Num(token)))
+            Ok(self.push(Node::Num { token }))
         } else if self.sees(Kind::Name) {
             let token = self.bump();
             self.named(token)
@@ -124,7 +143,7 @@ impl Parser<'_, '_> {
 
     // What a name begins, which was passed: an element of a list, a call, or the name alone.
     #[cycle(args_argument_atom_binding_bracket_choice_expr_named_product_putting_sum)]
-    fn named(&mut self, token: usize) -> Result<usize, usize>
+    fn named(&mut self, token: usize) -> Result<usize, Misplaced>
         requires { length (held self.old).nodes < (held self.old).at }
         ensures went { Went Stands result (λ f. name_by (sum_s f) (args_s f) (look (held self.old) token)) (held self.old) (held self.new) }
         ensures paid { Owed (held self.old) (held self.new) }
@@ -133,19 +152,19 @@ impl Parser<'_, '_> {
             self.bump();
             let index = self.sum()?;
             self.take(Kind::CloseSquare)?;
-            Ok(self.push(Node::Read(token, index)))
+            Ok(self.push(Node::Read { name: token, index }))
         } else if self.sees(Kind::Open) {
             self.bump();
             let args = self.args()?;
-            Ok(self.push(Node::Call(token, args)))
+            Ok(self.push(Node::Call { name: token, args }))
         } else {
-            Ok(self.push(Node::Name(token)))
+            Ok(self.push(Node::Name { token }))
         }
     }
 
     // What a bracket begins, which was passed: an expression, or one with conditions that it is to meet.
     #[cycle(args_argument_atom_binding_bracket_choice_expr_named_product_putting_sum)]
-    fn bracket(&mut self, token: usize) -> Result<usize, usize>
+    fn bracket(&mut self, token: usize) -> Result<usize, Misplaced>
         ensures went { Went Stands result (λ f. bracket_by (expr_s f) (conditions_s true f) (look (held self.old) token)) (held self.old) (held self.new) }
         ensures paid { Paid (held self.old) (held self.new) }
     {
@@ -155,16 +174,23 @@ impl Parser<'_, '_> {
             let first = self.at;
             self.conditions(true)?;
             self.take(Kind::Close)?;
-            Ok(self.push(Node::Claim(keyword, first, inner)))
+            Ok(self.push(Node::Claim {
+                keyword,
+                conditions: first,
+                inner,
+            }))
         } else {
             self.take(Kind::Close)?;
-            Ok(self.push(Node::Nest(token, inner)))
+            Ok(self.push(Node::Nest {
+                bracket: token,
+                inner,
+            }))
         }
     }
 
     // The arguments up to and with their closing bracket; name and bracket were passed.
     #[cycle(args_argument_atom_binding_bracket_choice_expr_named_product_putting_sum)]
-    fn args(&mut self) -> Result<usize, usize>
+    fn args(&mut self) -> Result<usize, Misplaced>
         requires { suc (length (held self.old).nodes) < (held self.old).at }
         ensures went { Went ArgsStand result args_s (held self.old) (held self.new) }
         ensures paid { OwedTwo (held self.old) (held self.new) }
@@ -186,13 +212,13 @@ impl Parser<'_, '_> {
 
     // One more argument, after those at a position.
     #[cycle(args_argument_atom_binding_bracket_choice_expr_named_product_putting_sum)]
-    fn argument(&mut self, before: usize) -> Result<usize, usize>
+    fn argument(&mut self, before: usize) -> Result<usize, Misplaced>
         requires { length (held self.old).nodes < (held self.old).at }
         ensures went { (xs : Args) → ArgsStand (held self.old) before xs → Went ArgsStand result (λ f. arg_on (sum_s f) xs) (held self.old) (held self.new) }
         ensures moved { Moved (held self.old) (held self.new) }
         ensures paid { Owed (held self.old) (held self.new) }
     {
         let arg = self.sum()?;
-        Ok(self.push(Node::Arg(before, arg)))
+        Ok(self.push(Node::Arg { before, last: arg }))
     }
 }

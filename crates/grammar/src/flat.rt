@@ -1,43 +1,17 @@
-// Conditions and params: flat stretches of tokens, for which no node is made.
+// Conditions and params: flat stretches of tokens, for which no node is made. Whether `result` may stand is a flag, as in the definitions. Each stretch has its own loop, since they differ in the function that they call, whose clauses a parameter for it would repeat.
 ghost use Rattle.std.specs.Prelude.{◌≡◌, ◌<◌, Bool, true, false, ◌≢◌};
 ghost use Rattle.letters.specs.Kinds.{number};
 ghost use Rattle.grammar.specs.Parsers.{wanted};
 ghost use Rattle.grammar.specs.Sheets.{item_s, side_s, condition_s, conditions_s, optional_s, param_s, params_s};
-ghost use Rattle.grammar.specs.Sheets.{quantity as stood};
 ghost use Rattle.grammar.specs.Held.{held, look, token_count, Went, Any, SameCount};
 
+use crate::misplaced::Misplaced;
 use crate::parser::Parser;
 use letters::Kind;
 
 impl Parser<'_, '_> {
-    // The token at hand is a name or, where that may stand, `result`.
-    fn sees_quantity(&self, res: bool) -> bool
-        ensures told { result ≡ stood res (look (held self.now) (held self.now).at) }
-        ensures inside { result ≡ true → (held self.now).at < token_count (held self.now) }
-    {
-        if self.sees(Kind::Name) {
-            true
-        } else if res {
-            self.sees(Kind::TheResult)
-        } else {
-            false
-        }
-    }
-
-    fn quantity(&mut self, res: bool) -> Result<(), usize>
-        ensures went { Went Any result (λ _. wanted (stood res)) (held self.old) (held self.new) }
-        ensures count { SameCount (held self.old) (held self.new) }
-    {
-        if self.sees_quantity(res) {
-            self.bump();
-            Ok(())
-        } else {
-            Err(self.fault())
-        }
-    }
-
     // An item, whether a minus stands before it or not.
-    fn item(&mut self, res: bool) -> Result<(), usize>
+    fn item(&mut self, res: bool) -> Result<(), Misplaced>
         ensures went { (m : Bool) → Went Any result (λ _. item_s res m) (held self.old) (held self.new) }
         ensures count { SameCount (held self.old) (held self.new) }
     {
@@ -45,16 +19,15 @@ impl Parser<'_, '_> {
             self.bump();
             if self.sees(Kind::Times) {
                 self.bump();
-                self.quantity(res)
-            } else {
-                Ok(())
+                self.quantity(res)?;
             }
         } else {
-            self.quantity(res)
+            self.quantity(res)?;
         }
+        Ok(())
     }
 
-    fn side(&mut self, res: bool) -> Result<(), usize>
+    fn side(&mut self, res: bool) -> Result<(), Misplaced>
         ensures went { Went Any result (side_s res) (held self.old) (held self.new) }
         ensures count { SameCount (held self.old) (held self.new) }
     {
@@ -66,7 +39,7 @@ impl Parser<'_, '_> {
         Ok(())
     }
 
-    fn condition(&mut self, res: bool) -> Result<(), usize>
+    fn condition(&mut self, res: bool) -> Result<(), Misplaced>
         ensures went { Went Any result (condition_s res) (held self.old) (held self.new) }
         ensures count { SameCount (held self.old) (held self.new) }
     {
@@ -75,7 +48,7 @@ impl Parser<'_, '_> {
         self.side(res)
     }
 
-    pub(crate) fn conditions(&mut self, res: bool) -> Result<(), usize>
+    pub(crate) fn conditions(&mut self, res: bool) -> Result<(), Misplaced>
         ensures went { Went Any result (conditions_s res) (held self.old) (held self.new) }
         ensures count { SameCount (held self.old) (held self.new) }
     {
@@ -88,7 +61,7 @@ impl Parser<'_, '_> {
     }
 
     // Conditions after a keyword, if that stands there.
-    pub(crate) fn optional(&mut self, kind: Kind, res: bool) -> Result<(), usize>
+    pub(crate) fn optional(&mut self, kind: Kind, res: bool) -> Result<(), Misplaced>
         requires { number kind ≢ number Kind.End }
         ensures went { Went Any result (optional_s kind res) (held self.old) (held self.new) }
         ensures count { SameCount (held self.old) (held self.new) }
@@ -101,7 +74,7 @@ impl Parser<'_, '_> {
         }
     }
 
-    fn param(&mut self) -> Result<(), usize>
+    fn param(&mut self) -> Result<(), Misplaced>
         ensures went { Went Any result (λ _. param_s) (held self.old) (held self.new) }
         ensures count { SameCount (held self.old) (held self.new) }
     {
@@ -110,14 +83,12 @@ impl Parser<'_, '_> {
             self.bump();
             self.take(Kind::Name)?;
             self.take(Kind::CloseSquare)?;
-            Ok(())
-        } else {
-            Ok(())
         }
+        Ok(())
     }
 
     // The params up to and with their closing bracket.
-    pub(crate) fn params(&mut self) -> Result<(), usize>
+    pub(crate) fn params(&mut self) -> Result<(), Misplaced>
         ensures went { Went Any result params_s (held self.old) (held self.new) }
         ensures count { SameCount (held self.old) (held self.new) }
     {

@@ -3,16 +3,17 @@
 
 mod descent;
 mod flat;
+mod misplaced;
 pub mod node;
 mod parser;
 pub mod piece;
 mod rules;
 mod steps;
-mod stretch;
+pub mod tokens;
 pub mod unread;
 
 pub use node::Node;
 pub use piece::{ItemRead, ParamRead};
 pub use rules::parse;
-pub use stretch::{item_at, param_at, token_at};
+pub use tokens::Tokens;
 pub use unread::Unread;

@@ -1,28 +1,77 @@
-// A sheet in flat nodes. A node has the numbers of its tokens, then the positions of its parts, which are lower than its own.
-#[derive(Clone, Copy)]
+// A sheet in flat nodes. A node has the numbers of its tokens, then the positions of its parts, which are lower than its own: nodes lie in a slice that the caller lends, so no part is a Box.
+#[derive(Clone, Copy, Debug, PartialEq, Eq)]
 pub enum Node {
     Blank,
-    Num(usize),
-    Name(usize),
+    Num {
+        token: usize,
+    },
+    Name {
+        token: usize,
+    },
     // The operator, and both sides.
-    Calc(usize, usize, usize),
+    Calc {
+        sign: usize,
+        left: usize,
+        right: usize,
+    },
     // The list's name, and the index.
-    Read(usize, usize),
+    Read {
+        name: usize,
+        index: usize,
+    },
     // The rule's name, and the last argument's node.
-    Call(usize, usize),
+    Call {
+        name: usize,
+        args: usize,
+    },
     // `let`, the name, what it stands for, and where it is in force.
-    Bind(usize, usize, usize, usize),
+    Bind {
+        keyword: usize,
+        name: usize,
+        bound: usize,
+        body: usize,
+    },
     // `if`, the comparison, both sides and both branches.
-    Test(usize, usize, usize, usize, usize, usize),
+    Test {
+        keyword: usize,
+        sign: usize,
+        left: usize,
+        right: usize,
+        met: usize,
+        unmet: usize,
+    },
     // `put`, the list's name, the index, the value, and what follows.
-    Put(usize, usize, usize, usize, usize),
+    Put {
+        keyword: usize,
+        name: usize,
+        index: usize,
+        value: usize,
+        rest: usize,
+    },
     // `as`, where its conditions begin, and the expression before it.
-    Claim(usize, usize, usize),
+    Claim {
+        keyword: usize,
+        conditions: usize,
+        inner: usize,
+    },
     // The bracket, and the expression in it.
-    Nest(usize, usize),
+    Nest {
+        bracket: usize,
+        inner: usize,
+    },
     // Arguments: none, or those before and one more.
     NoArgs,
-    Arg(usize, usize),
+    Arg {
+        before: usize,
+        last: usize,
+    },
     // `rule`, its name, where the params begin, where `needs` and where `gives` would stand, and the body.
-    Rule(usize, usize, usize, usize, usize, usize),
+    Rule {
+        keyword: usize,
+        name: usize,
+        params: usize,
+        needs: usize,
+        gives: usize,
+        body: usize,
+    },
 }

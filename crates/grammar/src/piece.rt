@@ -1,7 +1,7 @@
 use letters::Token;
 
 // An item of a side: its factor if one is written, its numeral, name or `result`, and how many tokens it has.
-#[derive(Clone, Copy)]
+#[derive(Clone, Copy, Debug, PartialEq, Eq)]
 pub struct ItemRead {
     pub factor: Option<Token>,
     pub atom: Token,
@@ -9,7 +9,7 @@ pub struct ItemRead {
 }
 
 // A param: its name, its length's name if it is a list, and how many tokens it has.
-#[derive(Clone, Copy)]
+#[derive(Clone, Copy, Debug, PartialEq, Eq)]
 pub struct ParamRead {
     pub name: Token,
     pub length: Option<Token>,

@@ -4,14 +4,16 @@ ghost use Rattle.grammar.specs.Held.{held, look, Went, RuleStands, Paid};
 ghost use Rattle.grammar.specs.Parsed.{Ruled, Parsed};
 ghost use Rattle.grammar.specs.Lawful.{Lawful};
 
+use crate::misplaced::Misplaced;
 use crate::node::Node;
 use crate::parser::Parser;
+use crate::tokens::Tokens;
 use crate::unread::Unread;
-use letters::{Kind, Token};
+use letters::Kind;
 
 impl Parser<'_, '_> {
     // The rule whose keyword was passed.
-    fn rule(&mut self, token: usize) -> Result<Node, usize>
+    fn rule(&mut self, token: usize) -> Result<Node, Misplaced>
         ensures went { Went RuleStands result (rule_s (look (held self.old) token)) (held self.old) (held self.new) }
         ensures paid { Paid (held self.old) (held self.new) }
     {
@@ -26,11 +28,18 @@ impl Parser<'_, '_> {
         self.take(Kind::Equal)?;
         let body = self.expr()?;
         self.take(Kind::Semicolon)?;
-        Ok(Node::Rule(token, name, params, needs, gives, body))
+        Ok(Node::Rule {
+            keyword: token,
+            name,
+            params,
+            needs,
+            gives,
+            body,
+        })
     }
 
     // All rules, up to the end of the tokens.
-    fn rules(&mut self) -> Result<(), usize>
+    fn rules(&mut self) -> Result<(), Misplaced>
         requires { (held self.old).nodes ≡ [] }
         ensures { Ruled result (held self.old) (held self.new) }
     {
@@ -48,22 +57,19 @@ impl Parser<'_, '_> {
 }
 
 // The tree of a sheet, in nodes, of which the count is given. What a refusal leaves in the nodes is not said.
-pub fn parse(tokens: &[Token], end: usize, nodes: &mut [Node]) -> Result<usize, Unread>
-    ensures parsed { Parsed result tokens.now end (length nodes.old) nodes.new }
-    ensures law { Lawful result tokens.now end nodes.new }
+pub fn parse(source: Tokens<'_>, nodes: &mut [Node]) -> Result<usize, Unread>
+    ensures parsed { Parsed result source.entry.tokens.now source.entry.end (length nodes.old) nodes.new }
+    ensures law { Lawful result source.entry.tokens.now source.entry.end nodes.new }
 {
-    if nodes.len() < tokens.len() {
+    if nodes.len() < source.tokens.len() {
         return Err(Unread::Full);
     }
     let mut parser = Parser {
-        tokens,
-        end,
+        source,
         at: 0,
         nodes,
         count: 0,
     };
-    match parser.rules() {
-        Ok(()) => Ok(parser.count),
-        Err(place) => Err(Unread::Fault(place)),
-    }
+    parser.rules()?;
+    Ok(parser.count)
 }

@@ -1,12 +1,13 @@
-ghost use Rattle.std.specs.Prelude.{◌≡◌, ℕ, suc, ◌<◌, true, length, Ok, Err, ◌≢◌};
+ghost use Rattle.std.specs.Prelude.{◌≡◌, ℕ, Bool, suc, ◌<◌, true, length, Ok, Err, ◌≢◌};
 ghost use Rattle.letters.specs.Kinds.{number};
 ghost use Rattle.grammar.specs.Parsers.{is_a, wanted, want};
 ghost use Rattle.grammar.specs.Sheets.{sum_sign, compares};
+ghost use Rattle.grammar.specs.Sheets.{quantity as stood};
 ghost use Rattle.grammar.specs.Held.{held, look, token_count, Went, Taken, Bumped, Pushed, SameCount};
 
+use crate::misplaced::Misplaced;
 use crate::node::Node;
 use crate::parser::Parser;
-use crate::stretch::token_at;
 use letters::{Kind, Token};
 
 impl Parser<'_, '_> {
@@ -14,23 +15,23 @@ impl Parser<'_, '_> {
     fn peek(&self) -> Token
         ensures { result ≡ look (held self.now) (held self.now).at }
     {
-        token_at(self.tokens, self.end, self.at)
+        self.source.token(self.at)
     }
 
-    // The token at hand is of this kind, which is not the end's.
+    // The token at hand is of this kind, which is not the end's: an end stands past the last token and is never taken. Each caller names its kind, so the clause that asks for this is met by computing, and a type of kinds without the end would only stand beside Kind.
     pub(crate) fn sees(&self, kind: Kind) -> bool
         requires { number kind ≢ number Kind.End }
         ensures told { result ≡ is_a kind (look (held self.now) (held self.now).at) }
         ensures inside { result ≡ true → (held self.now).at < token_count (held self.now) }
     {
-        self.peek().kind.is(kind)
+        self.source.stands(self.at, kind)
     }
 
     // There is no token left.
     pub(crate) fn ended(&self) -> bool
         ensures { result ≡ is_a Kind.End (look (held self.now) (held self.now).at) }
     {
-        self.peek().kind.is(Kind::End)
+        self.peek().is(Kind::End)
     }
 
     // The token at hand joins the parts of a sum.
@@ -38,11 +39,7 @@ impl Parser<'_, '_> {
         ensures told { result ≡ sum_sign (look (held self.now) (held self.now).at) }
         ensures inside { result ≡ true → (held self.now).at < token_count (held self.now) }
     {
-        if self.sees(Kind::Plus) {
-            true
-        } else {
-            self.sees(Kind::Minus)
-        }
+        self.sees(Kind::Plus) || self.sees(Kind::Minus)
     }
 
     // The token at hand compares; `!=` does so only in a test.
@@ -50,17 +47,18 @@ impl Parser<'_, '_> {
         ensures told { result ≡ compares tested (look (held self.now) (held self.now).at) }
         ensures inside { result ≡ true → (held self.now).at < token_count (held self.now) }
     {
-        if self.sees(Kind::Less) {
-            true
-        } else if self.sees(Kind::AtMost) {
-            true
-        } else if self.sees(Kind::Equal) {
-            true
-        } else if tested {
-            self.sees(Kind::Unequal)
-        } else {
-            false
-        }
+        self.sees(Kind::Less)
+            || self.sees(Kind::AtMost)
+            || self.sees(Kind::Equal)
+            || tested && self.sees(Kind::Unequal)
+    }
+
+    // The token at hand is a name or, where that may stand, `result`.
+    fn sees_quantity(&self, res: bool) -> bool
+        ensures told { result ≡ stood res (look (held self.now) (held self.now).at) }
+        ensures inside { result ≡ true → (held self.now).at < token_count (held self.now) }
+    {
+        self.sees(Kind::Name) || res && self.sees(Kind::TheResult)
     }
 
     // Goes past the token at hand, which is not the end, and gives its number.
@@ -74,38 +72,54 @@ impl Parser<'_, '_> {
         token
     }
 
-    // The place of the token at hand.
-    pub(crate) fn fault(&self) -> usize
-        ensures { result ≡ (look (held self.now) (held self.now).at).place }
+    // No sheet has the token at hand here.
+    pub(crate) fn fault(&self) -> Misplaced
+        ensures { result.place ≡ (look (held self.now) (held self.now).at).place }
     {
-        self.peek().place
+        Misplaced {
+            place: self.peek().place,
+        }
+    }
+
+    // Takes the token at hand where it fits.
+    fn take_if(&mut self, fits: bool) -> Result<usize, Misplaced>
+        requires { fits ≡ true → (held self.old).at < token_count (held self.old) }
+        ensures went { (b : Token → Bool) → fits ≡ b (look (held self.old) (held self.old).at) → Went Taken result (λ _. wanted b) (held self.old) (held self.new) }
+        ensures count { SameCount (held self.old) (held self.new) }
+        ensures past { elim result [ Ok a ↦ (held self.new).at ≡ suc (held self.old).at | Err e ↦ Unit {0} ] }
+    {
+        if fits {
+            Ok(self.bump())
+        } else {
+            Err(self.fault())
+        }
     }
 
     // Takes a token that is to be of this kind.
-    pub(crate) fn take(&mut self, kind: Kind) -> Result<usize, usize>
+    pub(crate) fn take(&mut self, kind: Kind) -> Result<usize, Misplaced>
         requires { number kind ≢ number Kind.End }
         ensures went { Went Taken result (λ _. want kind) (held self.old) (held self.new) }
         ensures count { SameCount (held self.old) (held self.new) }
         ensures past { elim result [ Ok a ↦ (held self.new).at ≡ suc (held self.old).at | Err e ↦ Unit {0} ] }
     {
-        if self.sees(kind) {
-            Ok(self.bump())
-        } else {
-            Err(self.fault())
-        }
+        self.take_if(self.sees(kind))
     }
 
     // Takes a comparison.
-    pub(crate) fn comparison(&mut self, tested: bool) -> Result<usize, usize>
+    pub(crate) fn comparison(&mut self, tested: bool) -> Result<usize, Misplaced>
         ensures went { Went Taken result (λ _. wanted (compares tested)) (held self.old) (held self.new) }
         ensures count { SameCount (held self.old) (held self.new) }
         ensures past { elim result [ Ok a ↦ (held self.new).at ≡ suc (held self.old).at | Err e ↦ Unit {0} ] }
     {
-        if self.sees_comparison(tested) {
-            Ok(self.bump())
-        } else {
-            Err(self.fault())
-        }
+        self.take_if(self.sees_comparison(tested))
+    }
+
+    // Takes a name or, where that may stand, `result`.
+    pub(crate) fn quantity(&mut self, res: bool) -> Result<usize, Misplaced>
+        ensures went { Went Taken result (λ _. wanted (stood res)) (held self.old) (held self.new) }
+        ensures count { SameCount (held self.old) (held self.new) }
+    {
+        self.take_if(self.sees_quantity(res))
     }
 
     // Makes a node, for which a token was passed that no other node has, and gives its position.

@@ -4,3 +4,4 @@ pub mod Zeros
 pub mod Belows
 pub mod Euclid
 pub mod Weighted
+pub mod Filling

@@ -20,9 +20,5 @@ pub fn divisor(xs: &[u64]) -> u64
     ensures value { result ≡ divisor_of xs.now }
     ensures above { 0 < result }
 {
-    let mut g = 0;
-    for x in xs {
-        g = gcd(g, *x);
-    }
-    g.max(1)
+    xs.iter().fold(0, |g, x| gcd(g, *x)).max(1)
 }

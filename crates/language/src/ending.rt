@@ -1,8 +1,10 @@
-ghost use Rattle.std.specs.Prelude.{◌≡◌};
+ghost use Rattle.std.specs.Prelude.{◌≡◌, Some};
 ghost use Rattle.language.specs.Vocabulary.{ending_number, ending_word};
 
+use std::fmt;
+
 // How a run ends: with a value, or with a stop.
-#[derive(Clone, Copy)]
+#[derive(Clone, Copy, Debug, PartialEq, Eq)]
 pub enum Ending {
     Value = 0,
     Spent = 1,
@@ -33,8 +35,16 @@ impl Ending {
     }
 }
 
-// The end of a run: a value has place 0, a stop has value 0.
-#[derive(Clone, Copy)]
+impl fmt::Display for Ending {
+    ghost output = { λ ending. Some (ending_word ending) };
+
+    fn fmt<W: fmt::Write>(&self, f: &mut fmt::Formatter<W>) -> fmt::Result {
+        f.write_str(self.word())
+    }
+}
+
+// The end of a run: a value has place 0, a stop has value 0. It is shown in a line with 0 for what it does not give, so it is one struct, as in the definitions.
+#[derive(Clone, Copy, Debug, PartialEq, Eq)]
 pub struct End {
     pub kind: Ending,
     pub value: i32,

@@ -1,10 +1,11 @@
-ghost use Rattle.std.specs.Prelude.{◌≡◌};
+ghost use Rattle.std.specs.Prelude.{◌≡◌, Some};
 ghost use Rattle.language.specs.Vocabulary.{check_word, check_ending, duty_word};
 
 use crate::ending::Ending;
+use std::fmt;
 
 // A check of an index: that it is not below 0, that it is not above the last place.
-#[derive(Clone, Copy)]
+#[derive(Clone, Copy, Debug, PartialEq, Eq)]
 pub enum Check {
     Below,
     Above,
@@ -31,8 +32,16 @@ impl Check {
     }
 }
 
+impl fmt::Display for Check {
+    ghost output = { λ check. Some (check_word check) };
+
+    fn fmt<W: fmt::Write>(&self, f: &mut fmt::Formatter<W>) -> fmt::Result {
+        f.write_str(self.word())
+    }
+}
+
 // What a sheet owes: a check of an index, or a guard, which a run never tests.
-#[derive(Clone, Copy)]
+#[derive(Clone, Copy, Debug, PartialEq, Eq)]
 pub enum Duty {
     Below,
     Above,
@@ -48,5 +57,13 @@ impl Duty {
             Duty::Above => "above",
             Duty::Guard => "guard",
         }
+    }
+}
+
+impl fmt::Display for Duty {
+    ghost output = { λ duty. Some (duty_word duty) };
+
+    fn fmt<W: fmt::Write>(&self, f: &mut fmt::Formatter<W>) -> fmt::Result {
+        f.write_str(self.word())
     }
 }

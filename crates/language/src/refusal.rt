@@ -1,10 +1,12 @@
-ghost use Rattle.std.specs.Prelude.{◌≡◌};
+ghost use Rattle.std.specs.Prelude.{◌≡◌, Some};
 ghost use Rattle.language.specs.Vocabulary.{refusal_number, refusal_word, refusal_place, refusal_named, refusal_reason, refusal_depth};
 
 use domains::Fault;
+use std::error::Error;
+use std::fmt;
 
 // Why a call is refused, with what each refusal gives.
-#[derive(Clone, Copy)]
+#[derive(Clone, Copy, Debug, PartialEq, Eq)]
 pub enum Refusal {
     // Low above 0, high below 0, or too few records.
     Range,
@@ -40,18 +42,18 @@ impl Refusal {
     {
         match self {
             Refusal::Range => 1,
-            Refusal::Letter { place: _ } => 2,
-            Refusal::Grammar { place: _ } => 3,
-            Refusal::Name { place: _ } => 4,
-            Refusal::Full { place: _ } => 5,
-            Refusal::Large { place: _ } => 6,
+            Refusal::Letter { .. } => 2,
+            Refusal::Grammar { .. } => 3,
+            Refusal::Name { .. } => 4,
+            Refusal::Full { .. } => 5,
+            Refusal::Large { .. } => 6,
             Refusal::Number => 7,
             Refusal::Narrow => 8,
-            Refusal::Unproved { place: _, fault: _ } => 9,
-            Refusal::Closed { named: _, place: _ } => 10,
+            Refusal::Unproved { .. } => 9,
+            Refusal::Closed { .. } => 10,
             Refusal::Call => 11,
             Refusal::Input => 12,
-            Refusal::Needs { named: _ } => 13,
+            Refusal::Needs { .. } => 13,
         }
     }
 
@@ -60,39 +62,39 @@ impl Refusal {
     {
         match self {
             Refusal::Range => "range",
-            Refusal::Letter { place: _ } => "letter",
-            Refusal::Grammar { place: _ } => "grammar",
-            Refusal::Name { place: _ } => "name",
-            Refusal::Full { place: _ } => "full",
-            Refusal::Large { place: _ } => "large",
+            Refusal::Letter { .. } => "letter",
+            Refusal::Grammar { .. } => "grammar",
+            Refusal::Name { .. } => "name",
+            Refusal::Full { .. } => "full",
+            Refusal::Large { .. } => "large",
             Refusal::Number => "number",
             Refusal::Narrow => "narrow",
-            Refusal::Unproved { place: _, fault: _ } => "unproved",
-            Refusal::Closed { named: _, place: _ } => "closed",
+            Refusal::Unproved { .. } => "unproved",
+            Refusal::Closed { .. } => "closed",
             Refusal::Call => "call",
             Refusal::Input => "input",
-            Refusal::Needs { named: _ } => "needs",
+            Refusal::Needs { .. } => "needs",
         }
     }
 
-    // The place that it gives, else 0.
+    // The place that it gives, else 0: a refusal is shown in a line with 0 for what it does not give, so this and the numbers below are no options.
     pub fn place(self) -> usize
         ensures { result ≡ refusal_place self }
     {
         match self {
-            Refusal::Range => 0,
-            Refusal::Letter { place } => place,
-            Refusal::Grammar { place } => place,
-            Refusal::Name { place } => place,
-            Refusal::Full { place } => place,
-            Refusal::Large { place } => place,
-            Refusal::Number => 0,
-            Refusal::Narrow => 0,
-            Refusal::Unproved { place, fault: _ } => place,
-            Refusal::Closed { named: _, place } => place,
-            Refusal::Call => 0,
-            Refusal::Input => 0,
-            Refusal::Needs { named: _ } => 0,
+            Refusal::Letter { place }
+            | Refusal::Grammar { place }
+            | Refusal::Name { place }
+            | Refusal::Full { place }
+            | Refusal::Large { place }
+            | Refusal::Unproved { place, .. }
+            | Refusal::Closed { place, .. } => place,
+            Refusal::Range
+            | Refusal::Number
+            | Refusal::Narrow
+            | Refusal::Call
+            | Refusal::Input
+            | Refusal::Needs { .. } => 0,
         }
     }
 
@@ -101,8 +103,7 @@ impl Refusal {
         ensures { result ≡ refusal_named self }
     {
         match self {
-            Refusal::Closed { named, place: _ } => named,
-            Refusal::Needs { named } => named,
+            Refusal::Closed { named, .. } | Refusal::Needs { named } => named,
             _ => 0,
         }
     }
@@ -113,8 +114,8 @@ impl Refusal {
     {
         match self {
             Refusal::Unproved {
-                place: _,
                 fault: Some(fault),
+                ..
             } => fault.reason.number(),
             _ => 0,
         }
@@ -126,10 +127,20 @@ impl Refusal {
     {
         match self {
             Refusal::Unproved {
-                place: _,
                 fault: Some(fault),
+                ..
             } => fault.depth,
             _ => 0,
         }
     }
 }
+
+impl fmt::Display for Refusal {
+    ghost output = { λ refusal. Some (refusal_word refusal) };
+
+    fn fmt<W: fmt::Write>(&self, f: &mut fmt::Formatter<W>) -> fmt::Result {
+        f.write_str(self.word())
+    }
+}
+
+impl Error for Refusal {}

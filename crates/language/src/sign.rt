@@ -1,8 +1,9 @@
-ghost use Rattle.std.specs.Prelude.{◌≡◌};
-ghost use Rattle.language.specs.Vocabulary.{operator_word, comparison_word};
-ghost use Rattle.language.specs.Vocabulary.{holds};
+ghost use Rattle.std.specs.Prelude.{◌≡◌, Some};
+ghost use Rattle.language.specs.Vocabulary.{operator_word, comparison_word, holds};
 
-#[derive(Clone, Copy)]
+use std::fmt;
+
+#[derive(Clone, Copy, Debug, PartialEq, Eq)]
 pub enum Operator {
     Sum,
     Difference,
@@ -21,7 +22,15 @@ impl Operator {
     }
 }
 
-#[derive(Clone, Copy)]
+impl fmt::Display for Operator {
+    ghost output = { λ operator. Some (operator_word operator) };
+
+    fn fmt<W: fmt::Write>(&self, f: &mut fmt::Formatter<W>) -> fmt::Result {
+        f.write_str(self.word())
+    }
+}
+
+#[derive(Clone, Copy, Debug, PartialEq, Eq)]
 pub enum Comparison {
     Less,
     LessOrEqual,
@@ -48,8 +57,16 @@ impl Comparison {
         match self {
             Comparison::Less => a < b,
             Comparison::LessOrEqual => a <= b,
-            Comparison::Equal => a <= b && b <= a,
-            Comparison::NotEqual => !(a <= b && b <= a),
+            Comparison::Equal => a == b,
+            Comparison::NotEqual => a != b,
         }
+    }
+}
+
+impl fmt::Display for Comparison {
+    ghost output = { λ comparison. Some (comparison_word comparison) };
+
+    fn fmt<W: fmt::Write>(&self, f: &mut fmt::Formatter<W>) -> fmt::Result {
+        f.write_str(self.word())
     }
 }

@@ -1,5 +1,5 @@
 // A constant and a coefficient for each quantity.
-#[derive(Clone, Copy)]
+#[derive(Clone, Copy, Debug, PartialEq, Eq)]
 pub struct Term {
     pub constant: i32,
     pub coefs: [i32; 16],

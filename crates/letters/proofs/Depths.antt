@@ -8,15 +8,13 @@ use Rattle.std.specs.List.{AllByRecursion}
 use Rattle.letters.specs.declared.token.Token.{Token}
 use Rattle.letters.specs.declared.misspelt.Misspelt.{Misspelt}
 use Rattle.letters.specs.declared.misspelt.Misspelt.TheVariants.{Length, Letter, Brackets}
-use Rattle.letters.specs.declared.cutting.Piece.{Piece}
-use Rattle.letters.specs.declared.cutting.Piece.TheVariants.{Blank, Part, Bad}
 use Rattle.letters.specs.Bytes.{is_blank, is_letter, is_digit, is_opening, is_closing, opened, open_in, EachLetter}
-use Rattle.letters.specs.Cuts.{piece_of, open_after, Cut, cut_from, answer_by}
+use Rattle.letters.specs.Cuts.{piece_of, open_after, Cut, stop, cut_from, answer_by}
 use Rattle.letters.specs.Spelling.{Spelt, name, numeral, fixed, Bracketed}
 use Rattle.letters.proofs.Good.{Good, part-good}
 use Rattle.letters.proofs.Sorts.{Sort, bare, keyword, lone, pair, sort-of}
 use Rattle.letters.proofs.Steps.{front-blank, front-bad, front-full, front-part, cut-none}
-use Rattle.letters.proofs.Telling.{blank-first, open-err}
+use Rattle.letters.proofs.Telling.{blank-first, bad-letter, open-err}
 
 -- bytes that are no brackets
 Plain : List ℕ → Type 0
@@ -142,7 +140,7 @@ module _ (n d i b : ℕ) (bs : List ℕ) (short : length bs ≤ n) (deep : d ≤
   ended : (c : Cut) → cut_from 0 d i (b ∷ bs) ≡ c → Held c.fault i d (b ∷ bs) → Held (cut_from 0 d i (b ∷ bs)).fault i d (b ∷ bs)
   ended c e h = subst (λ (c : Cut). Held c.fault i d (b ∷ bs)) (sym e) h
 
-  token-step : (t : Token) (r : Result ℕ Misspelt) → Part t ≡ piece_of i (b ∷ bs) → Good i (b ∷ bs) t → r ≡ open_after b d i → Held (cut_from 0 d i (b ∷ bs)).fault i d (b ∷ bs)
+  token-step : (t : Token) (r : Result ℕ Misspelt) → Ok (Some t) ≡ piece_of i (b ∷ bs) → Good i (b ∷ bs) t → r ≡ open_after b d i → Held (cut_from 0 d i (b ∷ bs)).fault i d (b ∷ bs)
   token-step t (Ok o) e g q =
       let some = g.some in let ok = open-ok b d i o q deep in
       let v = take (t.size - 1) bs in
@@ -157,14 +155,14 @@ module _ (n d i b : ℕ) (bs : List ℕ) (short : length bs ≤ n) (deep : d ≤
   token-step t (Err m) e g q =
       ended _ (front-full i d (b ∷ bs) (omega arith) t m e q) (subst (λ (m : Misspelt). Held (Some m) i d (b ∷ bs)) (sym (open-err b d i m q).0) (at_bracket i d (b ∷ bs) deep (open_full b d i m q)))
 
-  step : (p : Piece) → p ≡ piece_of i (b ∷ bs) → Held (cut_from 0 d i (b ∷ bs)).fault i d (b ∷ bs)
-  step Blank e =
+  step : (p : Result (Option Token) Misspelt) → p ≡ piece_of i (b ∷ bs) → Held (cut_from 0 d i (b ∷ bs)).fault i d (b ∷ bs)
+  step (Ok None) e =
       let p = opened-plain b d (blank-plain b (blank-first i (b ∷ bs) e)) in
       ended _ (front-blank i d (b ∷ bs) (omega arith) e)
       (held_on d d (b ∷ []) bs (open-within b d [] plain-nil deep (omega arith)) (open-token b d [] plain-nil ∙ p) _ i
       (subst (λ j. Held (cut_from 0 d (suc i) bs).fault j d bs) (sym (add-one i)) (rest d (suc i) bs short deep)))
-  step (Part t) e = token-step t (open_after b d i) e (part-good i (b ∷ bs) (omega arith) t (sym e)) refl
-  step Bad e = ended _ (front-bad i d (b ∷ bs) (omega arith) e) (at-letter i d (b ∷ bs) deep)
+  step (Ok (Some t)) e = token-step t (open_after b d i) e (part-good i (b ∷ bs) (omega arith) t (sym e)) refl
+  step (Err m) e = ended _ (front-bad i d (b ∷ bs) (omega arith) m e ∙ ap stop (bad-letter i (b ∷ bs) m e)) (at-letter i d (b ∷ bs) deep)
 
 held : (n d i : ℕ) (bs : List ℕ) → length bs ≤ n → d ≤ 64 → Held (cut_from 0 d i bs).fault i d bs
 unfolding Held

@@ -1,5 +1,5 @@
 -- The token at a place is spelt there, and could not be longer.
-use Rattle.std.proofs.Common.{◌≡◌, ℕ, ◌+◌, ◌<◌, ◌≤◌, Bool, true, false, cond, eqb, leb, ◌⊎◌, List, [], ◌∷◌, ◌++◌, length, get_or, take, drop, Some, None, Option, sym, refl, ap, ◌∙◌, subst, ap₂, inl, inr, arith}
+use Rattle.std.proofs.Common.{◌≡◌, ℕ, ◌+◌, ◌<◌, ◌≤◌, Bool, true, false, cond, eqb, leb, ◌⊎◌, List, [], ◌∷◌, ◌++◌, length, get_or, take, drop, Some, None, Option, sym, refl, ap, ◌∙◌, subst, ap₂, inl, inr, arith, Ok, Err}
 use Rattle.std.proofs.ByRecursion.{All-get_or}
 use Rattle.std.proofs.lemmas.List.{length-drop, length-take-le, get_or-take, get_or-drop, get_or_past, take_more}
 use Rattle.std.proofs.lemmas.List.Sums.{prefix_len-le-length}
@@ -10,9 +10,8 @@ use Rattle.std.specs.List.{prefix_len, AllByRecursion}
 use Rattle.letters.specs.declared.kind.Kind.{Kind}
 use Rattle.letters.specs.declared.kind.Kind.TheVariants.{Name, Numeral}
 use Rattle.letters.specs.declared.token.Token.{Token}
-use Rattle.letters.specs.declared.cutting.Lead.TheVariants.{Gap, Word, Number, Sign}
-use Rattle.letters.specs.declared.cutting.Piece.TheVariants.{Part, Bad}
-use Rattle.letters.specs.Bytes.{is_blank, is_letter, is_digit, EachLetter, EachDigit}
+use Rattle.letters.specs.declared.misspelt.Misspelt.TheVariants.{Letter}
+use Rattle.letters.specs.Bytes.{is_blank, is_letter, is_digit, EachLetter, EachDigit, Gap, Word, Number, Sign}
 use Rattle.letters.specs.Cuts.{word_at, numeral_at, sign_of, sign_by, sign_at, piece_by, piece_of}
 use Rattle.letters.specs.Kinds.{word, keyword_of, keywords, written_so}
 use Rattle.letters.specs.Spelling.{Spelt, name, numeral, fixed, Grows, by-letter, by-digit, to-sign, Longest}
@@ -86,10 +85,10 @@ module _ (i : ℕ) (bs : List ℕ) (full : 0 < length bs) where
   word-spelt w n a l (inl h) = name h a l h refl
   word-spelt w n a l (inr h) = fixed h refl
 
-  word_good : is_letter (get_or bs 0 0) ≡ true → (t : Token) → word_at i bs ≡ Part t → Good i bs t
+  word_good : is_letter (get_or bs 0 0) ≡ true → (t : Token) → word_at i bs ≡ Ok (Some t) → Good i bs t
   word_good f t e = go (leb (prefix_len is_letter bs) 16) refl e
     where
-      go : (s : Bool) → leb (prefix_len is_letter bs) 16 ≡ s → cond s (Part (token_of (keyword_of (take (prefix_len is_letter bs) bs)) i (prefix_len is_letter bs) 0)) Bad ≡ Part t → Good i bs t
+      go : (s : Bool) → leb (prefix_len is_letter bs) 16 ≡ s → cond s (Ok (Some (token_of (keyword_of (take (prefix_len is_letter bs) bs)) i (prefix_len is_letter bs) 0))) (Err (Letter i)) ≡ Ok (Some t) → Good i bs t
       go true q h =
           let fits = prefix_len-le-length is_letter bs in
           let long = length-take-le (prefix_len is_letter bs) bs fits in
@@ -98,10 +97,10 @@ module _ (i : ℕ) (bs : List ℕ) (full : 0 < length bs) where
           subst (Good i bs) same (record { place = refl; some = run-some is_letter bs full f; fits = fits; spelt = word-spelt (take (prefix_len is_letter bs) bs) _ (run-passes is_letter bs) (omega arith) (written_as (take (prefix_len is_letter bs) bs) keywords); longest = word-longest f })
       go false q h = let no : ◌≡◌ {A = ℕ} 0 1 = cc in let bad : ⊥ = omega arith in absurd bad
 
-  numeral-good : is_digit (get_or bs 0 0) ≡ true → (t : Token) → numeral_at i bs ≡ Part t → Good i bs t
+  numeral-good : is_digit (get_or bs 0 0) ≡ true → (t : Token) → numeral_at i bs ≡ Ok (Some t) → Good i bs t
   numeral-good f t e = go (leb (prefix_len is_digit bs) 6) refl e
     where
-      go : (s : Bool) → leb (prefix_len is_digit bs) 6 ≡ s → cond s (Part (token_of Numeral i (prefix_len is_digit bs) (digits_value 10 (take (prefix_len is_digit bs) bs)))) Bad ≡ Part t → Good i bs t
+      go : (s : Bool) → leb (prefix_len is_digit bs) 6 ≡ s → cond s (Ok (Some (token_of Numeral i (prefix_len is_digit bs) (digits_value 10 (take (prefix_len is_digit bs) bs))))) (Err (Letter i)) ≡ Ok (Some t) → Good i bs t
       go true q h =
           let fits = prefix_len-le-length is_digit bs in
           let long = length-take-le (prefix_len is_digit bs) bs fits in
@@ -153,23 +152,23 @@ module _ (i : ℕ) (bs : List ℕ) (full : 0 < length bs) where
         (λ d h. no_digit 2 (omega arith) fits (subst EachDigit (sym two) d))
         (λ c p m h. let no : ◌≡◌ {A = ℕ} 2 1 = ap length p in omega arith))
 
-    sign-good : (t : Token) → sign_at i bs ≡ Part t → Good i bs t
+    sign-good : (t : Token) → sign_at i bs ≡ Ok (Some t) → Good i bs t
     sign-good t e = go (sign_of (get_or bs 0 0) (eqb (get_or bs 1 0) 61)) refl e
       where
-        go : (o : Option Kind) → sign_of (get_or bs 0 0) (eqb (get_or bs 1 0) 61) ≡ o → sign_by i o ≡ Part t → Good i bs t
+        go : (o : Option Kind) → sign_of (get_or bs 0 0) (eqb (get_or bs 1 0) 61) ≡ o → sign_by i o ≡ Ok (Some t) → Good i bs t
         go None q h = let no : ◌≡◌ {A = ℕ} 0 1 = cc in let bad : ⊥ = omega arith in absurd bad
         go (Some k) q h = let same : token_of k i (length (word k)) 0 ≡ t = cc in subst (Good i bs) same (sign-tok k (sign-is (get_or bs 0 0) (eqb (get_or bs 1 0) 61) k q))
 
-  pub part-good : (t : Token) → piece_of i bs ≡ Part t → Good i bs t
+  pub part-good : (t : Token) → piece_of i bs ≡ Ok (Some t) → Good i bs t
   unfolding piece_of
   part-good t e = go (is_blank (get_or bs 0 0)) (is_letter (get_or bs 0 0)) (is_digit (get_or bs 0 0)) refl refl e
     where
-      go : (p q r : Bool) → is_letter (get_or bs 0 0) ≡ q → is_digit (get_or bs 0 0) ≡ r → piece_by (cond p Gap (cond q Word (cond r Number Sign))) i bs ≡ Part t → Good i bs t
+      go : (p q r : Bool) → is_letter (get_or bs 0 0) ≡ q → is_digit (get_or bs 0 0) ≡ r → piece_by (cond p Gap (cond q Word (cond r Number Sign))) i bs ≡ Ok (Some t) → Good i bs t
       go true q r f g h = let no : ◌≡◌ {A = ℕ} 0 1 = cc in let bad : ⊥ = omega arith in absurd bad
       go false true r f g h = word_good f t h
       go false false true f g h = numeral-good g t h
       go false false false f g h = sign-good f g t h
 
 -- a token has a byte, and lies in the text
-pub part-fits : (xs : List ℕ) (i : ℕ) (t : Token) → i < length xs → Part t ≡ piece_of i (drop i xs) → (0 < t.size) × (i + t.size ≤ length xs)
+pub part-fits : (xs : List ℕ) (i : ℕ) (t : Token) → i < length xs → Ok (Some t) ≡ piece_of i (drop i xs) → (0 < t.size) × (i + t.size ≤ length xs)
 part-fits xs i t h e = let l = length-drop i xs in let g = part-good i (drop i xs) (omega arith) t (sym e) in (g.some, omega (arith, g.fits))

@@ -1,4 +1,5 @@
 pub mod Depths
+pub mod Equals
 pub mod Exact
 pub mod Finishing
 pub mod Good
@@ -7,7 +8,6 @@ pub mod Pieces
 pub mod Places
 pub mod Running
 pub mod Signs
-mod Slicing
 pub mod Sorts
 pub mod Steps
 pub mod Telling

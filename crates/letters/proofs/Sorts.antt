@@ -1,9 +1,8 @@
 -- The kinds by how they are written, one line for each.
-use Rattle.std.proofs.Common.{◌≡◌, ℕ, ◌≤◌, Bool, true, false, eqb, ◌⊎◌, List, [], ◌∷◌, length, refl, ap, inl, inr, arith}
+use Rattle.std.proofs.Common.{◌≡◌, ℕ, ◌≤◌, Bool, true, false, eqb, ◌⊎◌, List, [], ◌∷◌, length, refl, ap, inl, inr, arith, Ok, Some}
 use Rattle.std.proofs.lemmas.Bool.{eqb-true}
 use Rattle.letters.specs.declared.kind.Kind.{Kind}
 use Rattle.letters.specs.declared.kind.Kind.TheVariants.{Name, Numeral, End, Open, Close, OpenSquare, CloseSquare, Comma, Semicolon, Plus, Minus, Times, Less, AtMost, Equal, Unequal, Becomes, Rule, Needs, Gives, Let, In, If, Then, Else, Put, As, TheResult}
-use Rattle.letters.specs.declared.cutting.Piece.TheVariants.{Part}
 use Rattle.letters.specs.Bytes.{EachLetter}
 use Rattle.letters.specs.Cuts.{sign_of, sign_by, piece_of}
 use Rattle.letters.specs.Kinds.{word, written_so, keyword_of}
@@ -18,11 +17,11 @@ Mark c = (c ≡ 60) ⊎ ((c ≡ 33) ⊎ (c ≡ 58))
 pub data Sort (k : Kind) : Type 0 where
   bare : word k ≡ [] → Sort k
   keyword : EachLetter (word k) → length (word k) ≤ 16 → keyword_of (word k) ≡ k → Sort k
-  lone : (c : ℕ) → word k ≡ c ∷ [] → ((i : ℕ) (after : List ℕ) → Longest (c ∷ []) after → piece_of i (c ∷ after) ≡ Part (token_of k i 1 0)) → Sort k
-  pair : (c : ℕ) → Mark c → word k ≡ c ∷ 61 ∷ [] → ((i : ℕ) (after : List ℕ) → piece_of i (c ∷ 61 ∷ after) ≡ Part (token_of k i 2 0)) → Sort k
+  lone : (c : ℕ) → word k ≡ c ∷ [] → ((i : ℕ) (after : List ℕ) → Longest (c ∷ []) after → piece_of i (c ∷ after) ≡ Ok (Some (token_of k i 1 0))) → Sort k
+  pair : (c : ℕ) → Mark c → word k ≡ c ∷ 61 ∷ [] → ((i : ℕ) (after : List ℕ) → piece_of i (c ∷ 61 ∷ after) ≡ Ok (Some (token_of k i 2 0))) → Sort k
 
 -- an equals sign after < would make it longer
-less-piece : (i : ℕ) (after : List ℕ) → Longest (60 ∷ []) after → piece_of i (60 ∷ after) ≡ Part (token_of Less i 1 0)
+less-piece : (i : ℕ) (after : List ℕ) → Longest (60 ∷ []) after → piece_of i (60 ∷ after) ≡ Ok (Some (token_of Less i 1 0))
 unfolding piece_of
 less-piece i [] far = refl
 less-piece i (b ∷ more) far = ap (λ t. sign_by i (sign_of 60 t)) (go (eqb b 61) refl)

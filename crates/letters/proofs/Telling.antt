@@ -5,10 +5,7 @@ use Rattle.letters.specs.declared.kind.Kind.{Kind}
 use Rattle.letters.specs.declared.token.Token.{Token}
 use Rattle.letters.specs.declared.misspelt.Misspelt.{Misspelt}
 use Rattle.letters.specs.declared.misspelt.Misspelt.TheVariants.{Length, Letter, Brackets}
-use Rattle.letters.specs.declared.cutting.Piece.{Piece}
-use Rattle.letters.specs.declared.cutting.Piece.TheVariants.{Blank, Part, Bad}
-use Rattle.letters.specs.declared.cutting.Lead.TheVariants.{Gap, Word, Number, Sign}
-use Rattle.letters.specs.Bytes.{is_blank, is_letter, is_digit, is_opening, is_closing}
+use Rattle.letters.specs.Bytes.{is_blank, is_letter, is_digit, is_opening, is_closing, Gap, Word, Number, Sign}
 use Rattle.letters.specs.Cuts.{sign_by, piece_by, piece_of, open_after, Cut, stop, put, cut_from, answer_by}
 use Rattle.letters.specs.Spelling.{Reads, end, blank, token, Told}
 use Rattle.letters.proofs.Exact.{spelt-piece, blank-piece, stuck}
@@ -19,7 +16,7 @@ use Rattle.letters.proofs.Steps.{front-blank, front-bad, front-full, front-part,
 -- why the cut ends where it does
 abbrev pub Why : Misspelt → ℕ → List ℕ → Type 0
 Why Length j left = ⊥
-Why (Letter i) j left = (j ≡ i) × (Bad ≡ piece_of i left)
+Why (Letter i) j left = (j ≡ i) × (Err (Letter i) ≡ piece_of i left)
 Why (Brackets i) j left = (j ≡ i) × (is_opening (get_or left 0 0) ≡ true)
 
 -- what is left, from place i on, at the end or the fault
@@ -38,23 +35,41 @@ leaves-on (Some m) i n bs left h =
     let j = h.0 in let le : i + n ≤ h.0 = h.1 in
     (h.0, omega arith, h.2 ∙ drop-drop (h.0 - (i + n)) n bs ∙ ap (λ k. drop k bs) (omega arith), h.3, h.4)
 
-pub blank-first : (i : ℕ) (bs : List ℕ) → Blank ≡ piece_of i bs → is_blank (get_or bs 0 0) ≡ true
+pub blank-first : (i : ℕ) (bs : List ℕ) → Ok None ≡ piece_of i bs → is_blank (get_or bs 0 0) ≡ true
 unfolding piece_of
 blank-first i bs e = go (is_blank (get_or bs 0 0)) (is_letter (get_or bs 0 0)) (is_digit (get_or bs 0 0)) e
   where
-    no_word : (s : Bool) (t : Token) → Blank ≡ cond s (Part t) Bad → ⊥
+    no_word : (s : Bool) (t : Token) → Ok None ≡ cond s (Ok (Some t)) (Err (Letter i)) → ⊥
     no_word true t h = let no : ◌≡◌ {A = ℕ} 0 1 = cc in omega arith
     no_word false t h = let no : ◌≡◌ {A = ℕ} 0 1 = cc in omega arith
 
-    no_sign : (o : Option Kind) → Blank ≡ sign_by i o → ⊥
+    no_sign : (o : Option Kind) → Ok None ≡ sign_by i o → ⊥
     no_sign None h = let no : ◌≡◌ {A = ℕ} 0 1 = cc in omega arith
     no_sign (Some k) h = let no : ◌≡◌ {A = ℕ} 0 1 = cc in omega arith
 
-    go : (p q r : Bool) → Blank ≡ piece_by (cond p Gap (cond q Word (cond r Number Sign))) i bs → p ≡ true
+    go : (p q r : Bool) → Ok None ≡ piece_by (cond p Gap (cond q Word (cond r Number Sign))) i bs → p ≡ true
     go true q r h = refl
     go false true r h = absurd (no_word _ _ h)
     go false false true h = absurd (no_word _ _ h)
     go false false false h = absurd (no_sign _ h)
+
+pub bad-letter : (i : ℕ) (bs : List ℕ) (m : Misspelt) → Err m ≡ piece_of i bs → m ≡ Letter i
+unfolding piece_of
+bad-letter i bs m e = go (is_blank (get_or bs 0 0)) (is_letter (get_or bs 0 0)) (is_digit (get_or bs 0 0)) e
+  where
+    on-run : (s : Bool) (t : Token) → Err m ≡ cond s (Ok (Some t)) (Err (Letter i)) → m ≡ Letter i
+    on-run true t h = cc
+    on-run false t h = cc
+
+    on-sign : (o : Option Kind) → Err m ≡ sign_by i o → m ≡ Letter i
+    on-sign None h = cc
+    on-sign (Some k) h = cc
+
+    go : (p q r : Bool) → Err m ≡ piece_by (cond p Gap (cond q Word (cond r Number Sign))) i bs → m ≡ Letter i
+    go true q r h = cc
+    go false true r h = on-run _ _ h
+    go false false true h = on-run _ _ h
+    go false false false h = on-sign _ h
 
 pub open-err : (b d i : ℕ) (m : Misspelt) → Err m ≡ open_after b d i → (m ≡ Brackets i) × (is_opening b ≡ true)
 open-err b d i m e = go (is_opening b) (ltb d 64) e
@@ -81,7 +96,7 @@ on-blank : (i b : ℕ) (bs : List ℕ) (c : Cut) → is_blank b ≡ true → Out
 on-blank i b bs c e o = record { left = o.left; reads = blank e o.reads; leaves = leaves-on c.fault i 1 (b ∷ bs) o.left (subst (λ j. Leaves c.fault j bs o.left) (sym (add-one i)) o.leaves) }
 
 module _ (n d i b : ℕ) (bs : List ℕ) (short : length bs ≤ n) (rest : (d i : ℕ) (l : List ℕ) → length l ≤ n → Outcome i l (cut_from 0 d i l)) where
-  token-step : (t : Token) (r : Result ℕ Misspelt) → Part t ≡ piece_of i (b ∷ bs) → Good i (b ∷ bs) t → r ≡ open_after b d i → Outcome i (b ∷ bs) (cut_from 0 d i (b ∷ bs))
+  token-step : (t : Token) (r : Result ℕ Misspelt) → Ok (Some t) ≡ piece_of i (b ∷ bs) → Good i (b ∷ bs) t → r ≡ open_after b d i → Outcome i (b ∷ bs) (cut_from 0 d i (b ∷ bs))
   token-step t (Ok o) e g q =
       let some = g.some in
       let l = length-drop t.size (b ∷ bs) in
@@ -90,10 +105,10 @@ module _ (n d i b : ℕ) (bs : List ℕ) (short : length bs ≤ n) (rest : (d i 
       let o = open-err b d i m q in
       subst (Outcome i (b ∷ bs)) (ap stop (sym o.0) ∙ sym (front-full i d (b ∷ bs) (omega arith) t m e q)) (stopped i (b ∷ bs) (omega arith) (Brackets i) (refl, o.1))
 
-  step : (p : Piece) → p ≡ piece_of i (b ∷ bs) → Outcome i (b ∷ bs) (cut_from 0 d i (b ∷ bs))
-  step Blank e = subst (Outcome i (b ∷ bs)) (sym (front-blank i d (b ∷ bs) (omega arith) e)) (on-blank i b bs _ (blank-first i (b ∷ bs) e) (rest d (suc i) bs short))
-  step (Part t) e = token-step t (open_after b d i) e (part-good i (b ∷ bs) (omega arith) t (sym e)) refl
-  step Bad e = subst (Outcome i (b ∷ bs)) (sym (front-bad i d (b ∷ bs) (omega arith) e)) (stopped i (b ∷ bs) (omega arith) (Letter i) (refl, e))
+  step : (p : Result (Option Token) Misspelt) → p ≡ piece_of i (b ∷ bs) → Outcome i (b ∷ bs) (cut_from 0 d i (b ∷ bs))
+  step (Ok None) e = subst (Outcome i (b ∷ bs)) (sym (front-blank i d (b ∷ bs) (omega arith) e)) (on-blank i b bs _ (blank-first i (b ∷ bs) e) (rest d (suc i) bs short))
+  step (Ok (Some t)) e = token-step t (open_after b d i) e (part-good i (b ∷ bs) (omega arith) t (sym e)) refl
+  step (Err m) e = subst (Outcome i (b ∷ bs)) (sym (front-bad i d (b ∷ bs) (omega arith) m e ∙ ap stop (bad-letter i (b ∷ bs) m e))) (stopped i (b ∷ bs) (omega arith) (Letter i) (refl, ap Err (sym (bad-letter i (b ∷ bs) m e)) ∙ e))
 
 pub outcome : (n d i : ℕ) (bs : List ℕ) → length bs ≤ n → Outcome i bs (cut_from 0 d i bs)
 outcome n d i [] h = subst (Outcome i []) (sym (cut-none i d)) (record { left = []; reads = end; leaves = refl })

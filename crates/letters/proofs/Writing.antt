@@ -1,26 +1,21 @@
 -- The keyword that letters write.
-use Rattle.std.proofs.Common.{◌≡◌, ℕ, ◌+◌, ◌<◌, ◌≤◌, Bool, true, false, cond, ◌⊎◌, List, [], ◌∷◌, length, get_or, drop, sym, refl, ap, ◌∙◌, inl, inr}
+use Rattle.std.proofs.Common.{Some, ◌≡◌, ℕ, Bool, true, false, cond, ◌⊎◌, List, [], ◌∷◌, sym, refl, inl, inr}
 use Rattle.std.proofs.lemmas.Slice.Eq.{bytes_eq-Decides}
-use Rattle.std.proofs.lemmas.List.{at_drop_more, at_drop_all}
 use Rattle.std.specs.Str.{bytes_eq}
+use Rattle.std.specs.List.{find}
+use Rattle.std.specs.Option.{unwrap_or}
 use Rattle.letters.specs.declared.kind.Kind.{Kind}
 use Rattle.letters.specs.declared.kind.Kind.TheVariants.{Name}
 use Rattle.letters.specs.Kinds.{word, written_so}
 
-module _ (w : List ℕ) (ks : List Kind) (i : ℕ) (d : Kind) where
-  written_at : i < length ks → written_so w (drop i ks) ≡ cond (bytes_eq (word (get_or ks i d)) w) (get_or ks i d) (written_so w (drop (i + 1) ks))
-  unfolding written_so
-  written_at h = at_drop_more (written_so w) ks i d h
-
-  pub written-here : i < length ks → bytes_eq (word (get_or ks i d)) w ≡ true → written_so w (drop i ks) ≡ get_or ks i d
-  written-here h e = written_at h ∙ ap (λ b. cond b (get_or ks i d) (written_so w (drop (i + 1) ks))) e
-
-  pub written-later : i < length ks → bytes_eq (word (get_or ks i d)) w ≡ false → written_so w (drop i ks) ≡ written_so w (drop (i + 1) ks)
-  written-later h e = written_at h ∙ ap (λ b. cond b (get_or ks i d) (written_so w (drop (i + 1) ks))) e
-
-pub written-nowhere : (w : List ℕ) (ks : List Kind) (i : ℕ) → length ks ≤ i → written_so w (drop i ks) ≡ Name
+pub written_found : (w : List ℕ) (ks : List Kind) → written_so w ks ≡ unwrap_or (find (λ k. bytes_eq (word k) w) ks) Name
 unfolding written_so
-written-nowhere w ks i h = at_drop_all (written_so w) ks i h
+written_found w [] = refl
+written_found w (k ∷ ks) = go (bytes_eq (word k) w) (written_found w ks)
+  where
+    go : (t : Bool) → written_so w ks ≡ unwrap_or (find (λ k. bytes_eq (word k) w) ks) Name → cond t k (written_so w ks) ≡ unwrap_or (cond t (Some k) (find (λ k. bytes_eq (word k) w) ks)) Name
+    go true h = refl
+    go false h = h
 
 -- a word is a name, or written as its keyword is
 pub written_as : (w : List ℕ) (ks : List Kind) → (written_so w ks ≡ Name) ⊎ (w ≡ word (written_so w ks))

@@ -1,10 +1,6 @@
 -- The bytes of a text: blanks, letters, digits, brackets.
 use Rattle.std.specs.Prelude.{◌≡◌, ℕ, ◌+◌, ◌-◌, Bool, true, cond, ◌&&◌, ◌||◌, List, [], ◌∷◌, ◌==◌, nat_le}
 use Rattle.std.specs.List.{AllByRecursion}
-use Rattle.letters.specs.declared.cutting.Lead.{Lead}
-use Rattle.letters.specs.declared.cutting.Lead.TheVariants.{Gap, Word, Number, Sign}
-use Rattle.letters.specs.declared.cutting.Run.{Run}
-use Rattle.letters.specs.declared.cutting.Run.TheVariants.{Letters, Digits}
 
 -- space, tab, line feed, carriage return
 abbrev pub is_blank : ℕ → Bool
@@ -33,12 +29,14 @@ open_in depth [] = depth
 open_in depth (b ∷ bs) = open_in (opened b depth) bs
 
 -- what a byte begins
+pub data Lead : Type 0 where
+  Gap : Lead
+  Word : Lead
+  Number : Lead
+  Sign : Lead
+
 abbrev pub lead_of : ℕ → Lead
 lead_of b = cond (is_blank b) Gap (cond (is_letter b) Word (cond (is_digit b) Number Sign))
-
-abbrev pub of_run : Run → ℕ → Bool
-of_run Letters = is_letter
-of_run Digits = is_digit
 
 abbrev pub EachLetter : List ℕ → Type 0
 EachLetter w = AllByRecursion (λ b. is_letter b ≡ true) w

@@ -7,26 +7,22 @@ use Rattle.letters.specs.declared.kind.Kind.TheVariants.{Numeral, Open, Close, O
 use Rattle.letters.specs.declared.token.Token.{Token}
 use Rattle.letters.specs.declared.misspelt.Misspelt.{Misspelt}
 use Rattle.letters.specs.declared.misspelt.Misspelt.TheVariants.{Length, Letter, Brackets}
-use Rattle.letters.specs.declared.cutting.Lead.{Lead}
-use Rattle.letters.specs.declared.cutting.Lead.TheVariants.{Gap, Word, Number, Sign}
-use Rattle.letters.specs.declared.cutting.Piece.{Piece}
-use Rattle.letters.specs.declared.cutting.Piece.TheVariants.{Blank, Part, Bad}
-use Rattle.letters.specs.Bytes.{is_letter, is_digit, is_opening, is_closing, lead_of}
+use Rattle.letters.specs.Bytes.{is_letter, is_digit, is_opening, is_closing, lead_of, Gap, Word, Number, Sign, Lead}
 use Rattle.letters.specs.Kinds.{word, keyword_of}
 use Rattle.letters.specs.Tokens.{token_of}
 
--- the word at the front: the run of letters there, a keyword or a name; a run of more than 16 is none
-abbrev pub word_by : ℕ → List ℕ → ℕ → Piece
-word_by i bs n = cond (nat_le n 16) (Part (token_of (keyword_of (take n bs)) i n 0)) Bad
+-- the word at the front of the bytes from place i on: the run of letters there, a keyword or a name; a run of more than 16 is misspelt
+abbrev pub word_by : ℕ → List ℕ → ℕ → Result (Option Token) Misspelt
+word_by i bs n = cond (nat_le n 16) (Ok (Some (token_of (keyword_of (take n bs)) i n 0))) (Err (Letter i))
 
-abbrev pub word_at : ℕ → List ℕ → Piece
+abbrev pub word_at : ℕ → List ℕ → Result (Option Token) Misspelt
 word_at i bs = word_by i bs (prefix_len is_letter bs)
 
--- the numeral at the front: the run of digits there; a run of more than 6 is none
-abbrev pub numeral_by : ℕ → List ℕ → ℕ → Piece
-numeral_by i bs n = cond (nat_le n 6) (Part (token_of Numeral i n (digits_value 10 (take n bs)))) Bad
+-- the numeral at the front: the run of digits there; a run of more than 6 is misspelt
+abbrev pub numeral_by : ℕ → List ℕ → ℕ → Result (Option Token) Misspelt
+numeral_by i bs n = cond (nat_le n 6) (Ok (Some (token_of Numeral i n (digits_value 10 (take n bs))))) (Err (Letter i))
 
-abbrev pub numeral_at : ℕ → List ℕ → Piece
+abbrev pub numeral_at : ℕ → List ℕ → Result (Option Token) Misspelt
 numeral_at i bs = numeral_by i bs (prefix_len is_digit bs)
 
 -- the sign that begins with a byte, by whether an equals sign follows
@@ -37,21 +33,21 @@ sign_of b equals =
     (cond (b == 44) (Some Comma) (cond (b == 59) (Some Semicolon) (cond (b == 43) (Some Plus) (cond (b == 45) (Some Minus)
     (cond (b == 42) (Some Times) (cond (b == 60) (Some Less) (cond (b == 61) (Some Equal) None)))))))))))))
 
-abbrev pub sign_by : ℕ → Option Kind → Piece
-sign_by i None = Bad
-sign_by i (Some k) = Part (token_of k i (length (word k)) 0)
+abbrev pub sign_by : ℕ → Option Kind → Result (Option Token) Misspelt
+sign_by i None = Err (Letter i)
+sign_by i (Some k) = Ok (Some (token_of k i (length (word k)) 0))
 
-abbrev pub sign_at : ℕ → List ℕ → Piece
+abbrev pub sign_at : ℕ → List ℕ → Result (Option Token) Misspelt
 sign_at i bs = sign_by i (sign_of (slice_index bs 0) (slice_index bs 1 == 61))
 
--- what stands at the front of the bytes from place i on
-abbrev pub piece_by : Lead → ℕ → List ℕ → Piece
-piece_by Gap i bs = Blank
+-- what stands at the front of the bytes from place i on: a blank, which is no token, or the longest token, or neither
+abbrev pub piece_by : Lead → ℕ → List ℕ → Result (Option Token) Misspelt
+piece_by Gap i bs = Ok None
 piece_by Word i bs = word_at i bs
 piece_by Number i bs = numeral_at i bs
 piece_by Sign i bs = sign_at i bs
 
-unfoldable pub piece_of : ℕ → List ℕ → Piece
+unfoldable pub piece_of : ℕ → List ℕ → Result (Option Token) Misspelt
 piece_of i bs = piece_by (lead_of (slice_index bs 0)) i bs
 
 -- how many brackets are open after the token that begins with this byte; the 65th may not open
@@ -78,10 +74,10 @@ put_by t (Ok depth) rest = put t (rest depth)
 put_by t (Err m) rest = stop m
 
 -- a piece at place i, that begins with b, before the rest, given how many bytes of it are to skip and how many brackets are open
-abbrev pub cut_by : Piece → ℕ → ℕ → ℕ → (ℕ → ℕ → Cut) → Cut
-cut_by Blank i b depth rest = rest 0 depth
-cut_by (Part t) i b depth rest = put_by t (open_after b depth i) (rest (t.size - 1))
-cut_by Bad i b depth rest = stop (Letter i)
+abbrev pub cut_by : Result (Option Token) Misspelt → ℕ → ℕ → ℕ → (ℕ → ℕ → Cut) → Cut
+cut_by (Ok None) i b depth rest = rest 0 depth
+cut_by (Ok (Some t)) i b depth rest = put_by t (open_after b depth i) (rest (t.size - 1))
+cut_by (Err m) i b depth rest = stop m
 
 -- the bytes from place i on: the next `skip` belong to a token that is taken already
 unfoldable pub cut_from : ℕ → ℕ → ℕ → List ℕ → Cut

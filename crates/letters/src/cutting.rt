@@ -1,7 +1,7 @@
 ghost use Rattle.std.specs.Prelude.{◌≡◌, ◌+◌, ◌<◌, ◌≤◌, length, drop, IfOk, ◌==◌, slice_index};
 ghost use Rattle.std.specs.Str.Parse.{digits_value};
 ghost use Rattle.std.specs.List.{prefix_len};
-ghost use Rattle.letters.specs.Bytes.{EachDigit, lead_of, of_run};
+ghost use Rattle.letters.specs.Bytes.{EachDigit, is_digit, is_letter};
 ghost use Rattle.letters.specs.Cuts.{sign_of, open_after, word_at, numeral_at, sign_at, piece_of, cut_of, answer, laid};
 ghost use Rattle.letters.specs.Spelling.{Told, Bracketed};
 
@@ -21,64 +21,29 @@ pub const MOST_DIGITS: usize = 6;
 // No more brackets, of both sorts together, are open at once.
 pub const MOST_OPEN: usize = 64;
 
-// What a byte begins.
-#[derive(Clone, Copy)]
-enum Lead {
-    Gap,
-    Word,
-    Number,
-    Sign,
-}
-
-// Bytes that go together as one token, however many there are.
-#[derive(Clone, Copy)]
-enum Run {
-    Letters,
-    Digits,
-}
-
-// What stands at a place of a text.
-#[derive(Clone, Copy)]
-enum Piece {
-    Blank,
-    Part(Token),
-    Bad,
-}
-
-fn lead_of(byte: u8) -> Lead
-    ensures { result ≡ lead_of byte }
+// How many letters stand at the front. Letters and digits have a function each: one for both would take the test as a closure, with a clause on each of its answers and a proof by hand that does not close, where these need none.
+fn letters_ahead(bytes: &[u8]) -> usize
+    ensures told { result ≡ prefix_len is_letter bytes.now }
+    ensures within { result ≤ length bytes.now }
 {
-    match byte as char {
-        ' ' | '\t' | '\n' | '\r' => Lead::Gap,
-        'a'..='z' | '_' => Lead::Word,
-        '0'..='9' => Lead::Number,
-        _ => Lead::Sign,
-    }
+    bytes
+        .iter()
+        .take_while(|byte| matches!(**byte as char, 'a'..='z' | '_'))
+        .count()
 }
 
-fn belongs(run: Run, byte: u8) -> bool
-    ensures { result ≡ of_run run byte }
+// How many digits stand at the front.
+fn digits_ahead(bytes: &[u8]) -> usize
+    ensures told { result ≡ prefix_len is_digit bytes.now }
+    ensures within { result ≤ length bytes.now }
 {
-    match run {
-        Run::Letters => matches!(byte as char, 'a'..='z' | '_'),
-        Run::Digits => matches!(byte as char, '0'..='9'),
-    }
+    bytes
+        .iter()
+        .take_while(|byte| matches!(**byte as char, '0'..='9'))
+        .count()
 }
 
-// How many bytes of a run stand from a place on.
-fn run_at(text: &[u8], from: usize, run: Run) -> usize
-    requires { from ≤ length text.now }
-    ensures told { result ≡ prefix_len (of_run run) (drop from text.now) }
-    ensures within { from + result ≤ length text.now }
-{
-    let mut at = from;
-    while at < text.len() && belongs(run, text[at]) {
-        at += 1;
-    }
-    at - from
-}
-
-// The number that digits write.
+// The number that digits write. A `for`: no bound of the number so far is known at the step of a `fold`.
 fn decimal(digits: &[u8]) -> u32
     requires few { length digits.now ≤ 6 }
     requires all { EachDigit digits.now }
@@ -91,47 +56,36 @@ fn decimal(digits: &[u8]) -> u32
     number
 }
 
-// The longest word at a place: a keyword or a name.
-fn word_at(text: &[u8], at: usize) -> Piece
-    requires { at ≤ length text.now }
-    ensures { result ≡ word_at at (drop at text.now) }
+// The longest word at the front of what is left from a place on: a keyword or a name.
+fn word_at(rest: &[u8], place: usize) -> Result<Option<Token>, Misspelt>
+    ensures { result ≡ word_at place rest.now }
 {
-    let size = run_at(text, at, Run::Letters);
+    let size = letters_ahead(rest);
     if size > MOST_LETTERS {
-        return Piece::Bad;
+        return Err(Misspelt::Letter(place));
     }
-    let kind = Kind::of_word(&text[at..at + size]);
-    Piece::Part(Token {
-        kind,
-        place: at,
+    Ok(Some(Token {
+        kind: Kind::of_word(&rest[..size]),
+        place,
         size,
         value: 0,
-    })
+    }))
 }
 
-// The longest numeral at a place.
-fn numeral_at(text: &[u8], at: usize) -> Piece
-    requires { at ≤ length text.now }
-    ensures { result ≡ numeral_at at (drop at text.now) }
+// The longest numeral there.
+fn numeral_at(rest: &[u8], place: usize) -> Result<Option<Token>, Misspelt>
+    ensures { result ≡ numeral_at place rest.now }
 {
-    let size = run_at(text, at, Run::Digits);
+    let size = digits_ahead(rest);
     if size > MOST_DIGITS {
-        return Piece::Bad;
+        return Err(Misspelt::Letter(place));
     }
-    let value = decimal(&text[at..at + size]);
-    Piece::Part(Token {
+    Ok(Some(Token {
         kind: Kind::Numeral,
-        place: at,
+        place,
         size,
-        value,
-    })
-}
-
-// An equals sign stands at a place.
-fn equals_at(text: &[u8], at: usize) -> bool
-    ensures { result ≡ (slice_index text.now at == 61) }
-{
-    at < text.len() && text[at] == b'='
+        value: decimal(&rest[..size]),
+    }))
 }
 
 // The sign that begins with a byte, if an equals sign follows or not.
@@ -157,32 +111,32 @@ fn sign_kind(byte: u8, equals: bool) -> Option<Kind>
     }
 }
 
-// The longest sign at a place.
-fn sign_at(text: &[u8], at: usize) -> Piece
-    requires { at < length text.now }
-    ensures { result ≡ sign_at at (drop at text.now) }
+// The longest sign there.
+fn sign_at(rest: &[u8], place: usize) -> Result<Option<Token>, Misspelt>
+    requires { 0 < length rest.now }
+    ensures { result ≡ sign_at place rest.now }
 {
-    match sign_kind(text[at], equals_at(text, at + 1)) {
-        Some(kind) => Piece::Part(Token {
-            kind,
-            place: at,
-            size: kind.word().len(),
-            value: 0,
-        }),
-        None => Piece::Bad,
-    }
+    let equals = rest.get(1) == Some(&b'=');
+    let kind = sign_kind(rest[0], equals).ok_or(Misspelt::Letter(place))?;
+    Ok(Some(Token {
+        kind,
+        place,
+        size: kind.word().len(),
+        value: 0,
+    }))
 }
 
-// What stands at a place: the longest token that begins there.
-fn piece_at(text: &[u8], at: usize) -> Piece
-    requires { at < length text.now }
-    ensures { result ≡ piece_of at (drop at text.now) }
+// What stands there: a blank, which is no token, or the longest token.
+#[tactic(auto, unfolding(crate::specs::Cuts::piece_of))]
+fn piece_at(rest: &[u8], place: usize) -> Result<Option<Token>, Misspelt>
+    requires { 0 < length rest.now }
+    ensures { result ≡ piece_of place rest.now }
 {
-    match lead_of(text[at]) {
-        Lead::Gap => Piece::Blank,
-        Lead::Word => word_at(text, at),
-        Lead::Number => numeral_at(text, at),
-        Lead::Sign => sign_at(text, at),
+    match rest[0] as char {
+        ' ' | '\t' | '\n' | '\r' => Ok(None),
+        'a'..='z' | '_' => word_at(rest, place),
+        '0'..='9' => numeral_at(rest, place),
+        _ => sign_at(rest, place),
     }
 }
 
@@ -198,7 +152,7 @@ fn open_after(byte: u8, depth: usize, place: usize) -> Result<usize, Misspelt>
     }
 }
 
-// Cuts a text into tokens, writes them to the front and says how many they are.
+// Cuts a text into tokens, writes them to the front and says how many they are. The array is the caller's, who wants it again after a refusal too, so the count stands beside it; the place goes on by a token's size, and each token keeps it, so it is counted.
 pub fn cut(text: &[u8], tokens: &mut [Token; 16384]) -> Result<usize, Misspelt>
     ensures value { result ≡ answer (cut_of text.now) }
     ensures written { tokens.new ≡ laid (cut_of text.now).tokens tokens.old }
@@ -213,15 +167,14 @@ pub fn cut(text: &[u8], tokens: &mut [Token; 16384]) -> Result<usize, Misspelt>
     let mut depth = 0;
     let mut count = 0;
     while at < text.len() {
-        match piece_at(text, at) {
-            Piece::Blank => at += 1,
-            Piece::Part(token) => {
+        match piece_at(&text[at..], at)? {
+            None => at += 1,
+            Some(token) => {
                 depth = open_after(text[at], depth, at)?;
                 tokens[count] = token;
                 count += 1;
                 at += token.size;
             }
-            Piece::Bad => return Err(Misspelt::Letter(at)),
         }
     }
     Ok(count)

@@ -1,8 +1,11 @@
-ghost use Rattle.std.specs.Prelude.{◌≡◌};
-ghost use Rattle.letters.specs.Kinds.{number, word, same_kind, keyword_of};
+ghost use Rattle.std.specs.Prelude.{◌≡◌, Some, find};
+ghost use Rattle.std.specs.Str.{bytes_eq};
+ghost use Rattle.letters.specs.Kinds.{number, word, keyword_of};
+
+use std::fmt;
 
 // What a token is. A keyword is added at the end of the enum, of `KEYWORDS` and of `word`.
-#[derive(Clone, Copy)]
+#[derive(Clone, Copy, Debug, PartialEq, Eq)]
 pub enum Kind {
     Name,
     Numeral,
@@ -61,9 +64,7 @@ impl Kind {
         ensures { result.now ≡ word self }
     {
         match self {
-            Kind::Name => "",
-            Kind::Numeral => "",
-            Kind::End => "",
+            Kind::Name | Kind::Numeral | Kind::End => "",
             Kind::Open => "(",
             Kind::Close => ")",
             Kind::OpenSquare => "[",
@@ -92,21 +93,28 @@ impl Kind {
         }
     }
 
-    pub fn is(self, other: Kind) -> bool
-        ensures { result ≡ same_kind self other }
-    {
-        self.number() == other.number()
-    }
-
     // The keyword that is written so, or a name.
     pub fn of_word(letters: &[u8]) -> Kind
         ensures { result ≡ keyword_of letters.now }
     {
-        for kind in KEYWORDS {
-            if kind.word().as_bytes() == letters {
-                return kind;
-            }
-        }
-        Kind::Name
+        written_so(letters, &KEYWORDS).unwrap_or(Kind::Name)
+    }
+}
+
+// The first of these kinds that is written so.
+fn written_so(letters: &[u8], kinds: &[Kind]) -> Option<Kind>
+    ensures { result ≡ find (λ k. bytes_eq (word k) letters.now) kinds.now }
+{
+    kinds
+        .iter()
+        .copied()
+        .find(|kind| kind.word().as_bytes() == letters)
+}
+
+impl fmt::Display for Kind {
+    ghost output = { λ k. Some (word k) };
+
+    fn fmt<W: fmt::Write>(&self, f: &mut fmt::Formatter<W>) -> fmt::Result {
+        f.write_str(self.word())
     }
 }

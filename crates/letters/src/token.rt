@@ -1,10 +1,11 @@
 ghost use Rattle.std.specs.Prelude.{◌≡◌};
 ghost use Rattle.letters.specs.Tokens.{token_of, bytes_of, same_name};
+ghost use Rattle.letters.specs.Kinds.{same_kind};
 
 use crate::kind::Kind;
 
-// A token by its first byte and its length in the text; a numeral has its value, any other 0.
-#[derive(Clone, Copy)]
+// A token by its first byte and its length in the text; a numeral has its value, any other 0. The value stands beside the kind, so that kinds are compared and tried without one.
+#[derive(Clone, Copy, Debug, PartialEq, Eq)]
 pub struct Token {
     pub kind: Kind,
     pub place: usize,
@@ -23,6 +24,14 @@ impl Token {
             size: 0,
             value: 0,
         }
+    }
+
+    // The token is of this kind.
+    #[tactic(auto, using(crate::proofs::Equals::tagged), unfolding(crate::specs::Kinds::same_kind))]
+    pub fn is(self, kind: Kind) -> bool
+        ensures { result ≡ same_kind self.kind kind }
+    {
+        self.kind == kind
     }
 
     // The bytes of a text from the token's first on, as many as the token has, as far as the text goes.

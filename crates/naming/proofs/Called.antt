@@ -1,13 +1,15 @@
 -- Looking for a rule by its name.
-use Rattle.std.proofs.Common.{◌≡◌, ℕ, zero, suc, ◌+◌, ◌≤◌, Bool, true, false, cond, eqb, List, [], ◌∷◌, ◌++◌, length, drop, is_some, Some, None, Option, refl, ap, ◌∙◌, inl, inr, arith, eq-eqb}
+use Rattle.std.proofs.Common.{◌≡◌, ℕ, zero, suc, ◌+◌, ◌≤◌, Bool, true, false, cond, eqb, List, [], ◌∷◌, ◌++◌, length, drop, is_some, Some, None, Option, sym, refl, ap, ◌∙◌, inl, inr, arith, eq-eqb}
 use Rattle.std.proofs.lemmas.Bool.{cases_lt}
+use Rattle.std.specs.Bool.{then_some}
 use Rattle.std.specs.List.{slice_get}
 use Rattle.letters.specs.declared.token.Token.{Token}
 use Rattle.letters.specs.Tokens.{same_name}
 use Rattle.grammar.specs.declared.node.Node.{Node}
 use Rattle.grammar.specs.Raw as Raw
 use Rattle.grammar.specs.Trees.{Source, raw_at, rule_in, rules_to}
-use Rattle.naming.specs.Calls.{named, arg_fault}
+use Rattle.naming.specs.declared.written.Written.{Written}
+use Rattle.naming.specs.Calls.{named, head_at, arg_fault}
 use Rattle.naming.specs.Faults.{params_of, call_faults, arg_faults}
 use Rattle.naming.specs.Least.{least}
 use Rattle.naming.specs.Scopes as Scopes
@@ -88,13 +90,14 @@ nth_drop [] (suc k) = refl
 nth_drop (x ∷ xs) zero = refl
 nth_drop (x ∷ xs) (suc k) = nth_drop xs k
 
-pub named_here : (text : List ℕ) (t : Token) (r : Raw.Rule) → same_name text r.name t ≡ true → named text (r ∷ []) t ≡ Some r.params
+-- a rule alone is named so or not
+pub named_when : (text : List ℕ) (t : Token) (r : Raw.Rule) (b : Bool) → b ≡ same_name text r.name t → named text (r ∷ []) t ≡ cond b (Some r.params) None
 unfolding named
-named_here text t r e = ap (λ b. cond b (Some r.params) None) e
+named_when text t r b e = ap (λ a. cond a (Some r.params) None) (sym e)
 
-pub named_other : (text : List ℕ) (t : Token) (r : Raw.Rule) → same_name text r.name t ≡ false → named text (r ∷ []) t ≡ None
-unfolding named
-named_other text t r e = ap (λ b. cond b (Some r.params) None) e
+pub head_when : (w : Written) (ps : ℕ) (b : Bool) → cond b (head_at w (Some ps)) None ≡ head_at w (then_some b ps)
+head_when w ps true = refl
+head_when w ps false = refl
 
 pub named-no : (text : List ℕ) (t : Token) → named text [] t ≡ None
 unfolding named

@@ -1,5 +1,5 @@
 -- The smallest place of what is joined, turn by turn.
-use Rattle.std.proofs.Common.{◌≡◌, ℕ, zero, suc, ◌+◌, ◌-◌, ◌<◌, ◌≤◌, Bool, true, false, cond, List, [], ◌∷◌, ◌++◌, length, None, Option, sym, refl, ap, ◌∙◌, inl, inr, arith}
+use Rattle.std.proofs.Common.{◌≡◌, ℕ, zero, suc, ◌+◌, ◌<◌, ◌≤◌, Bool, true, false, cond, List, [], ◌∷◌, ◌++◌, length, None, Option, sym, refl, ap, ◌∙◌, inl, inr, arith}
 use Rattle.std.proofs.lemmas.List.{get_or_past}
 use Rattle.std.proofs.lemmas.Bool.{cases_lt}
 use Rattle.letters.specs.declared.kind.Kind.{Kind}
@@ -17,21 +17,21 @@ use Rattle.naming.specs.Stretching.{Reader, rest, end, items, items_end, conditi
 use Rattle.naming.proofs.Joins.{joined-value, joined-next, rest-none}
 use Rattle.naming.proofs.Smallest.{merged-none, merged-assoc, least-append}
 
-rest_more : {X : Type 0} (l : Look) (b : Token → Bool) (one : Reader X) (n i : ℕ) → 0 < n → b (l i) ≡ true → rest l b one n i ≡ (one (l i) (i + 1)).value ∷ rest l b one (n - 1) (one (l i) (i + 1)).next
+pub rest_more : {X : Type 0} (l : Look) (b : Token → Bool) (one : Reader X) (n m i : ℕ) → n ≡ m + 1 → b (l i) ≡ true → rest l b one n i ≡ (one (l i) (i + 1)).value ∷ rest l b one m (one (l i) (i + 1)).next
 unfolding rest
-rest_more l b one zero i h e = absurd (omega arith)
-rest_more l b one (suc m) i h e =
-    ap (λ t. cond t ((one (l i) (suc i)).value ∷ rest l b one m (one (l i) (suc i)).next) []) e
-    ∙ ap (λ j. (one (l i) j).value ∷ rest l b one m (one (l i) j).next) (omega arith)
-    ∙ ap (λ k. (one (l i) (i + 1)).value ∷ rest l b one k (one (l i) (i + 1)).next) (omega arith)
+rest_more l b one zero m i h e = absurd (omega arith)
+rest_more l b one (suc k) m i h e =
+    ap (λ t. cond t ((one (l i) (suc i)).value ∷ rest l b one k (one (l i) (suc i)).next) []) e
+    ∙ ap (λ j. (one (l i) j).value ∷ rest l b one k (one (l i) j).next) (omega arith)
+    ∙ ap (λ q. (one (l i) (i + 1)).value ∷ rest l b one q (one (l i) (i + 1)).next) (omega arith)
 
-pub end_more : {X : Type 0} (l : Look) (b : Token → Bool) (one : Reader X) (n i : ℕ) → 0 < n → b (l i) ≡ true → end l b one n i ≡ end l b one (n - 1) (one (l i) (i + 1)).next
+pub end_more : {X : Type 0} (l : Look) (b : Token → Bool) (one : Reader X) (n m i : ℕ) → n ≡ m + 1 → b (l i) ≡ true → end l b one n i ≡ end l b one m (one (l i) (i + 1)).next
 unfolding end
-end_more l b one zero i h e = absurd (omega arith)
-end_more l b one (suc m) i h e =
-    ap (λ t. cond t (end l b one m (one (l i) (suc i)).next) i) e
-    ∙ ap (λ j. end l b one m (one (l i) j).next) (omega arith)
-    ∙ ap (λ k. end l b one k (one (l i) (i + 1)).next) (omega arith)
+end_more l b one zero m i h e = absurd (omega arith)
+end_more l b one (suc k) m i h e =
+    ap (λ t. cond t (end l b one k (one (l i) (suc i)).next) i) e
+    ∙ ap (λ j. end l b one k (one (l i) j).next) (omega arith)
+    ∙ ap (λ q. end l b one q (one (l i) (i + 1)).next) (omega arith)
 
 pub end_none : {X : Type 0} (l : Look) (b : Token → Bool) (one : Reader X) (n i : ℕ) → b (l i) ≡ false → end l b one n i ≡ i
 unfolding end
@@ -58,12 +58,12 @@ each-condition text ns = record { none = refl; more = λ x xs. refl }
 pub starts : {X : Type 0} (F : List X → List ℕ) (G : X → List ℕ) → Each F G → (x : X) (xs : List X) (f : Option ℕ) → f ≡ least (G x) → least (F (x ∷ xs)) ≡ merged f (least (F xs))
 starts F G e x xs f h = ap least (e.more x xs) ∙ least-append (G x) (F xs) ∙ ap (λ o. merged o (least (F xs))) (sym h)
 
-pub turns : {X : Type 0} (l : Look) (b : Token → Bool) (one : Reader X) (F : List X → List ℕ) (G : X → List ℕ) → Each F G → (n i : ℕ) (w f g r : Option ℕ) (j : ℕ) → w ≡ merged f (least (F (rest l b one n i))) → 0 < n → b (l i) ≡ true → g ≡ least (G (one (l i) (i + 1)).value) → j ≡ (one (l i) (i + 1)).next → r ≡ merged f g → w ≡ merged r (least (F (rest l b one (n - 1) j)))
-turns {X} l b one F G e n i w f g r j inv h t a k m =
+pub turns : {X : Type 0} (l : Look) (b : Token → Bool) (one : Reader X) (F : List X → List ℕ) (G : X → List ℕ) → Each F G → (n m i : ℕ) (w f g r : Option ℕ) (j : ℕ) → w ≡ merged f (least (F (rest l b one n i))) → n ≡ m + 1 → b (l i) ≡ true → g ≡ least (G (one (l i) (i + 1)).value) → j ≡ (one (l i) (i + 1)).next → r ≡ merged f g → w ≡ merged r (least (F (rest l b one m j)))
+turns {X} l b one F G e n m i w f g r j inv h t a k d =
     let x : X = (one (l i) (i + 1)).value in
     let q : ℕ = (one (l i) (i + 1)).next in
-    inv ∙ ap (λ xs. merged f (least (F xs))) (rest_more l b one n i h t) ∙ ap (merged f) (starts F G e x (rest l b one (n - 1) q) g a)
-    ∙ sym (merged-assoc f g (least (F (rest l b one (n - 1) q)))) ∙ ap (λ o. merged o (least (F (rest l b one (n - 1) q)))) (sym m) ∙ ap (λ p. merged r (least (F (rest l b one (n - 1) p)))) (sym k)
+    inv ∙ ap (λ xs. merged f (least (F xs))) (rest_more l b one n m i h t) ∙ ap (merged f) (starts F G e x (rest l b one m q) g a)
+    ∙ sym (merged-assoc f g (least (F (rest l b one m q)))) ∙ ap (λ o. merged o (least (F (rest l b one m q)))) (sym d) ∙ ap (λ p. merged r (least (F (rest l b one m p)))) (sym k)
 
 pub ends : {X : Type 0} (F : List X → List ℕ) (G : X → List ℕ) → Each F G → (xs : List X) (w f : Option ℕ) → w ≡ merged f (least (F xs)) → xs ≡ [] → f ≡ w
 unfolding least

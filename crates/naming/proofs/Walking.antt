@@ -16,7 +16,7 @@ use Rattle.naming.specs.Least.{merged, least}
 use Rattle.naming.specs.Reaches.{Went, scope_of, sheet_of}
 use Rattle.naming.specs.Scopes.{Scope, naming}
 use Rattle.naming.specs.Sources.{source_of, node_in}
-use Rattle.naming.specs.Walks.{head_params, expr_at, arguments_at}
+use Rattle.naming.specs.Walks.{expr_at, arguments_at}
 use Rattle.naming.proofs.Called.{arg-least, nth_drop}
 use Rattle.grammar.proofs.Parts.{step}
 use Rattle.naming.proofs.Scoping.{name-pushed}
@@ -59,8 +59,8 @@ arg-went wants bare place G {p = p} e v = record {
   roomy = v.roomy;
 }
 
-pub args_at-law : (w : Written) (lists : List ℕ) (ps top at : ℕ) (es : Raw.Args) {r : Option ℕ} {p q : Pile ℕ} → args_at (source_of w) top w.nodes.now at ≡ es → Went r (λ ns. args_faults (sheet_of w) (scope_of w ns lists) (head_params w ps) es) p q → Went r (arguments_at w lists ps top at) p q
-args_at-law w lists ps top at es {r} {p} {q} e v = same-faults (arguments_at w lists ps top at) _ r p q (λ ns. ap (args_faults (sheet_of w) (scope_of w ns lists) (head_params w ps)) e) v
+pub args_at-law : (w : Written) (lists : List ℕ) (ps : List Raw.Param) (top at : ℕ) (es : Raw.Args) {r : Option ℕ} {p q : Pile ℕ} → args_at (source_of w) top w.nodes.now at ≡ es → Went r (λ ns. args_faults (sheet_of w) (scope_of w ns lists) ps es) p q → Went r (arguments_at w lists ps top at) p q
+args_at-law w lists ps top at es {r} {p} {q} e v = same-faults (arguments_at w lists ps top at) _ r p q (λ ns. ap (args_faults (sheet_of w) (scope_of w ns lists) ps) e) v
 
 pub length_from : (qs ps : List Raw.Param) (k : ℕ) → qs ≡ drop k ps → length_at qs 0 ≡ length_at ps k
 length_from qs ps k e = ap (λ (o : Option Raw.Param). elim o [ None ↦ None | Some p ↦ p.length ]) (ap (λ xs. slice_get xs 0) e ∙ nth_drop ps k)

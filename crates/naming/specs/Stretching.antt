@@ -1,13 +1,15 @@
 -- Stretches of tokens as lists: what is joined, one after another.
-use Rattle.std.specs.Prelude.{ℕ, zero, suc, Bool, cond, List, [], ◌∷◌, Some, None, Option}
+use Rattle.std.specs.Prelude.{◌≡◌, ℕ, zero, suc, ◌+◌, Bool, cond, List, [], ◌∷◌, is_some, unwrap_or, MatchOption, Some, None, Option, nat_lt}
 use Rattle.letters.specs.declared.kind.Kind.TheVariants.{Comma, Minus}
 use Rattle.letters.specs.declared.token.Token.{Token}
 use Rattle.grammar.specs.Raw as Raw
 use Rattle.grammar.specs.Parsers.{Look, is_a}
 use Rattle.grammar.specs.Sheets.{sum_sign}
 use Rattle.grammar.specs.Stretches.{Past, item_at, condition_at, param_at}
-use Rattle.naming.specs.declared.head.Head.{Head}
+use Rattle.grammar.specs.Trees.{look_of}
+use Rattle.naming.specs.declared.head.Params.{Params}
 use Rattle.naming.specs.declared.head.Param.{Param}
+use Rattle.naming.specs.Sources.{source_of}
 
 -- how one is read past the token that joins it
 abbrev pub Reader : Type 0 → Type 0
@@ -41,9 +43,18 @@ looked l (Some n) = Some (l n)
 abbrev pub written : Look → Param → Raw.Param
 written l p = record { name = l p.name; length = looked l p.length }
 
--- what is left of a head
+-- the parameters from a position on, if one is to come there
 unfoldable pub left_at : Look → ℕ → ℕ → Bool → List Raw.Param
 left_at l at n here = cond here ((param_at l at).value ∷ params l n (param_at l at).next) []
 
-abbrev pub left : Look → Head → List Raw.Param
-left l h = left_at l h.at h.rest h.here
+-- those that are still to come
+abbrev pub left : Params → List Raw.Param
+left s = left_at (look_of (source_of s.sheet)) (unwrap_or s.next 0) s.rest (is_some s.next)
+
+-- where the next begins, after one that ends at a position
+abbrev pub next_after : Look → ℕ → ℕ → Option ℕ
+next_after l n j = cond (nat_lt 0 n) (cond (is_a Comma (l j)) (Some (j + 1)) None) None
+
+-- the first of them is given, and the others are left
+abbrev pub Gives : Params → Option Param → Params → Type 0
+Gives s r t = MatchOption r ((left s ≡ []) × (left t ≡ [])) (λ p. left s ≡ written (look_of (source_of s.sheet)) p ∷ left t) × (t.sheet ≡ s.sheet)

@@ -14,5 +14,6 @@ head_params w ps = params_at (length w.tokens.now) (look_of (source_of w)) ps
 abbrev pub expr_at : Written → List ℕ → ℕ → ℕ → List ℕ → List ℕ
 expr_at w lists top at names = expr_faults (sheet_of w) (scope_of w names lists) (raw_at (source_of w) top w.nodes.now at)
 
-abbrev pub arguments_at : Written → List ℕ → ℕ → ℕ → ℕ → List ℕ → List ℕ
-arguments_at w lists ps top at names = args_faults (sheet_of w) (scope_of w names lists) (head_params w ps) (args_at (source_of w) top w.nodes.now at)
+-- for the parameters that are given
+abbrev pub arguments_at : Written → List ℕ → List Raw.Param → ℕ → ℕ → List ℕ → List ℕ
+arguments_at w lists ps top at names = args_faults (sheet_of w) (scope_of w names lists) ps (args_at (source_of w) top w.nodes.now at)

@@ -9,9 +9,8 @@ ghost use Rattle.naming.specs.Scopes as scopes;
 ghost use Rattle.naming.specs.Sources.{source_of, node_in};
 ghost use Rattle.naming.specs.Stretching.{left};
 
-use crate::head::Head;
 use crate::least::earlier;
-use crate::taken::{Last, Ruled, Wanted};
+use crate::taken::{Last, Ruled};
 use crate::written::Written;
 use grammar::Node;
 use letters::{Token, same_name};
@@ -23,7 +22,7 @@ impl Written<'_> {
         ensures below { elim result [ Some n ↦ at < top | None ↦ Unit {0} ] }
     {
         match self.node(top, at) {
-            Some(Node::Arg(before, last)) => Some(Last { before, last }),
+            Some(Node::Arg { before, last }) => Some(Last { before, last }),
             _ => None,
         }
     }
@@ -33,7 +32,7 @@ impl Written<'_> {
         ensures { result ≡ name_of (node_in top self.entry.nodes.now at) }
     {
         match self.node(top, at) {
-            Some(Node::Name(token)) => Some(token),
+            Some(Node::Name { token }) => Some(token),
             _ => None,
         }
     }
@@ -44,37 +43,33 @@ impl Written<'_> {
         ensures below { elim result [ Some n ↦ at < top | None ↦ Unit {0} ] }
     {
         match self.node(top, at) {
-            Some(Node::Nest(_, inner)) => Some(inner),
+            Some(Node::Nest { inner, .. }) => Some(inner),
             _ => None,
         }
     }
 
-    // The place of the token of the node at a position.
+    // The place of the token of the node at a position; 0 where none stands, as in the definition.
     fn own_place(self, top: usize, at: usize) -> usize
         ensures { result ≡ own_place (look_of (source_of self.entry)) (node_in top self.entry.nodes.now at) }
     {
-        let Some(node) = self.node(top, at) else {
-            return 0;
-        };
-        match node {
-            Node::Num(t) => self.token(t).place,
-            Node::Name(t) => self.token(t).place,
-            Node::Calc(t, _, _) => self.token(t).place,
-            Node::Read(t, _) => self.token(t).place,
-            Node::Call(t, _) => self.token(t).place,
-            Node::Bind(t, _, _, _) => self.token(t).place,
-            Node::Test(t, _, _, _, _, _) => self.token(t).place,
-            Node::Put(t, _, _, _, _) => self.token(t).place,
-            Node::Claim(t, _, _) => self.token(t).place,
-            Node::Nest(t, _) => self.token(t).place,
-            Node::Blank => 0,
-            Node::NoArgs => 0,
-            Node::Arg(_, _) => 0,
-            Node::Rule(_, _, _, _, _, _) => 0,
+        match self.node(top, at) {
+            Some(
+                Node::Num { token: t }
+                | Node::Name { token: t }
+                | Node::Calc { sign: t, .. }
+                | Node::Read { name: t, .. }
+                | Node::Call { name: t, .. }
+                | Node::Bind { keyword: t, .. }
+                | Node::Test { keyword: t, .. }
+                | Node::Put { keyword: t, .. }
+                | Node::Claim { keyword: t, .. }
+                | Node::Nest { bracket: t, .. },
+            ) => self.token(t).place,
+            _ => 0,
         }
     }
 
-    // The place of the expression at a position; brackets alone have that of what is in them.
+    // The place of the expression at a position; brackets alone have that of what is in them. Each node leads to the next, so no slice holds them.
     pub fn place(self, top: usize, at: usize) -> usize
         ensures { result ≡ place_of (raw_at (source_of self.entry) top self.entry.nodes.now at) }
     {
@@ -87,17 +82,15 @@ impl Written<'_> {
         self.own_place(top, at)
     }
 
-    // The bare name of one of these lists stands at a position.
-    fn is_list(self, lists: &[usize], top: usize, at: usize) -> bool
-        ensures { result ≡ is_some (bare_list self.entry.text.now (tokens_of self.entry lists.now) (raw_at (source_of self.entry) top self.entry.nodes.now at)) }
+    // Which of these lists it is whose bare name stands at a position.
+    pub fn bare_list(self, lists: &[usize], top: usize, at: usize) -> Option<usize>
+        ensures { result ≡ bare_list self.entry.text.now (tokens_of self.entry lists.now) (raw_at (source_of self.entry) top self.entry.nodes.now at) }
     {
-        match self.name(top, at) {
-            Some(name) => self.is_among(lists, self.token(name)),
-            None => false,
-        }
+        let name = self.name(top, at)?;
+        self.find(lists, self.token(name))
     }
 
-    // The fault of the argument at a position, given the first inside it.
+    // The fault of the argument at a position, given the first inside it. Whether a list is wanted is a flag, as in the definition.
     pub fn arg_fault(
         self,
         lists: &[usize],
@@ -111,14 +104,14 @@ impl Written<'_> {
         if !list {
             return inside;
         }
-        if self.is_list(lists, top, at) {
+        if self.bare_list(lists, top, at).is_some() {
             None
         } else {
             earlier(Some(self.place(top, at)), inside)
         }
     }
 
-    // How many arguments stand at a position.
+    // How many arguments stand at a position: each leads to the one before, so no slice holds them.
     fn count_args(self, top: usize, at: usize) -> usize
         ensures { result ≡ count_args (args_at (source_of self.entry) top self.entry.nodes.now at) }
     {
@@ -133,26 +126,21 @@ impl Written<'_> {
         count
     }
 
-    // Whether the next parameter of a head is a list; past the last there is none.
-    pub fn wanted(self, head: Head) -> Wanted
-        ensures list { result.list ≡ is_some (length_at (left (look_of (source_of self.entry)) head) 0) }
-        ensures head { left (look_of (source_of self.entry)) result.head ≡ drop 1 (left (look_of (source_of self.entry)) head) }
-    {
-        match self.step(head) {
-            Some(step) => Wanted {
-                list: step.param.length.is_some(),
-                head: step.head,
-            },
-            None => Wanted { list: false, head },
-        }
-    }
-
     // The parts of the rule at a position.
     pub fn rule(self, at: usize) -> Option<Ruled>
         ensures { result ≡ ruled_of (node_in (length self.entry.nodes.now) self.entry.nodes.now at) }
     {
         match self.node(self.nodes.len(), at) {
-            Some(Node::Rule(keyword, name, params, needs, gives, body)) => {
+            Some(
+                Node::Rule {
+                    keyword,
+                    name,
+                    params,
+                    needs,
+                    gives,
+                    body,
+                },
+            ) => {
                 Some(Ruled {
                     keyword,
                     name,
@@ -171,11 +159,7 @@ impl Written<'_> {
         ensures { named self.entry.text.now (rule_in (source_of self.entry) (raw_at (source_of self.entry) at self.entry.nodes.now) (slice_get self.entry.nodes.now at)) token ≡ head_at self.entry result }
     {
         let rule = self.rule(at)?;
-        if same_name(self.text, self.token(rule.name), token) {
-            Some(rule.params)
-        } else {
-            None
-        }
+        same_name(self.text, self.token(rule.name), token).then_some(rule.params)
     }
 
     // Where the parameters begin of the first rule below a position that is named so.
@@ -195,7 +179,7 @@ impl Written<'_> {
         ensures { (inside : List raw.Param → List ℕ) → call_faults (params_of (sheet_of self.entry) (scopes.rule_in self.entry.text.now (sheet_of self.entry).rules token)) token (count_args (args_at (source_of self.entry) top self.entry.nodes.now at)) inside ≡ called self.entry result token inside }
     {
         let params = self.rule_named(self.nodes.len(), token)?;
-        if self.count_left(self.head(params)) == self.count_args(top, at) {
+        if self.params(params).number() == self.count_args(top, at) {
             Some(params)
         } else {
             None

@@ -9,84 +9,79 @@ ghost use Rattle.naming.specs.Reaches.{tokens_of};
 ghost use Rattle.naming.specs.Sources.{source_of};
 
 use crate::least::earlier;
-use crate::span::Span;
+use crate::past::Past;
 use crate::written::Written;
-use letters::Kind;
+use letters::{Kind, Token};
 
 impl Written<'_> {
     // A plus or a minus stands at a position.
-    fn is_sign(self, at: usize) -> bool
+    #[tactic(auto, unfolding(letters::specs::Kinds::same_kind))]
+    pub fn is_sign(self, at: usize) -> bool
         ensures { result ≡ sum_sign (look_of (source_of self.entry) at) }
     {
-        let kind = self.token(at).kind;
-        kind.is(Kind::Plus) || kind.is(Kind::Minus)
+        matches!(self.token(at).kind, Kind::Plus | Kind::Minus)
     }
 
     // A name in a condition is a number's.
-    fn atom_fault(self, names: &[usize], at: usize) -> Option<usize>
-        ensures { result ≡ least (atom_faults self.entry.text.now (tokens_of self.entry names.now) (look_of (source_of self.entry) at)) }
+    fn atom_fault(self, names: &[usize], atom: Token) -> Option<usize>
+        ensures { result ≡ least (atom_faults self.entry.text.now (tokens_of self.entry names.now) atom) }
     {
-        let token = self.token(at);
-        if token.kind.is(Kind::Name) {
-            self.unknown(names, token)
+        if atom.is(Kind::Name) {
+            self.unknown(names, atom)
         } else {
             None
         }
     }
 
-    fn item_fault(self, names: &[usize], at: usize) -> Span
+    fn item_fault(self, names: &[usize], at: usize) -> Past<Option<usize>>
         requires { at ≤ 16390 }
-        ensures fault { (m : Bool) → result.fault ≡ least (atom_faults self.entry.text.now (tokens_of self.entry names.now) (item_at (look_of (source_of self.entry)) m at).value.atom) }
+        ensures fault { (m : Bool) → result.value ≡ least (atom_faults self.entry.text.now (tokens_of self.entry names.now) (item_at (look_of (source_of self.entry)) m at).value.atom) }
         ensures next { (m : Bool) → result.next ≡ (item_at (look_of (source_of self.entry)) m at).next }
         ensures near { result.next ≤ at + 3 }
     {
-        if self.token(at).kind.is(Kind::Numeral) && self.token(at + 1).kind.is(Kind::Times) {
-            Span {
-                fault: self.atom_fault(names, at + 2),
-                next: at + 3,
-            }
-        } else {
-            Span {
-                fault: self.atom_fault(names, at),
-                next: at + 1,
-            }
+        let item = self.source().item_at(at);
+        Past {
+            value: self.atom_fault(names, item.atom),
+            next: at + item.size,
         }
     }
 
-    fn side_fault(self, names: &[usize], at: usize) -> Span
+    // The first name in a side that is no number's. Where the side ends is wanted too, which an iterator over its items would not give.
+    fn side_fault(self, names: &[usize], at: usize) -> Past<Option<usize>>
         requires { at ≤ 16390 }
-        ensures fault { result.fault ≡ least (side_faults self.entry.text.now (tokens_of self.entry names.now) (side_at (length self.entry.tokens.now) (look_of (source_of self.entry)) at).value) }
+        ensures fault { result.value ≡ least (side_faults self.entry.text.now (tokens_of self.entry names.now) (side_at (length self.entry.tokens.now) (look_of (source_of self.entry)) at).value) }
         ensures next { result.next ≡ (side_at (length self.entry.tokens.now) (look_of (source_of self.entry)) at).next }
         ensures near { result.next ≤ max at 16384 + 3 }
     {
         let first = self.item_fault(names, at);
-        let mut fault = first.fault;
+        let mut fault = first.value;
         let mut next = first.next;
-        let mut rest = self.tokens.len();
-        while rest > 0 && self.is_sign(next) {
+        for _turn in 0..self.tokens.len() {
+            if !self.is_sign(next) {
+                break;
+            }
             let item = self.item_fault(names, next + 1);
-            fault = earlier(fault, item.fault);
+            fault = earlier(fault, item.value);
             next = item.next;
-            rest -= 1;
         }
-        Span { fault, next }
+        Past { value: fault, next }
     }
 
-    fn condition_fault(self, names: &[usize], at: usize) -> Span
+    fn condition_fault(self, names: &[usize], at: usize) -> Past<Option<usize>>
         requires { at ≤ 16384 }
-        ensures fault { result.fault ≡ least (side_faults self.entry.text.now (tokens_of self.entry names.now) (condition_at (length self.entry.tokens.now) (look_of (source_of self.entry)) at).value.left ++ side_faults self.entry.text.now (tokens_of self.entry names.now) (condition_at (length self.entry.tokens.now) (look_of (source_of self.entry)) at).value.right) }
+        ensures fault { result.value ≡ least (side_faults self.entry.text.now (tokens_of self.entry names.now) (condition_at (length self.entry.tokens.now) (look_of (source_of self.entry)) at).value.left ++ side_faults self.entry.text.now (tokens_of self.entry names.now) (condition_at (length self.entry.tokens.now) (look_of (source_of self.entry)) at).value.right) }
         ensures next { result.next ≡ (condition_at (length self.entry.tokens.now) (look_of (source_of self.entry)) at).next }
         ensures near { result.next ≤ 16393 }
     {
         let left = self.side_fault(names, at);
         let right = self.side_fault(names, left.next + 1);
-        Span {
-            fault: earlier(left.fault, right.fault),
+        Past {
+            value: earlier(left.value, right.value),
             next: right.next,
         }
     }
 
-    // The first name in conditions that is no number's.
+    // The first name in conditions that is no number's. Each condition tells where the next begins.
     pub(crate) fn conditions_fault(self, names: &[usize], at: usize) -> Option<usize>
         ensures { result ≡ least (condition_faults self.entry.text.now (tokens_of self.entry names.now) (conditions_at (length self.entry.tokens.now) (look_of (source_of self.entry)) at).value) }
     {
@@ -94,14 +89,15 @@ impl Written<'_> {
             return None;
         }
         let first = self.condition_fault(names, at);
-        let mut fault = first.fault;
+        let mut fault = first.value;
         let mut next = first.next;
-        let mut rest = self.tokens.len();
-        while rest > 0 && self.token(next).kind.is(Kind::Comma) {
+        for _turn in 0..self.tokens.len() {
+            if !self.token(next).is(Kind::Comma) {
+                break;
+            }
             let condition = self.condition_fault(names, next + 1);
-            fault = earlier(fault, condition.fault);
+            fault = earlier(fault, condition.value);
             next = condition.next;
-            rest -= 1;
         }
         fault
     }
@@ -111,7 +107,7 @@ impl Written<'_> {
         requires { same_kind Kind.End keyword ≡ false }
         ensures { result ≡ least (condition_faults self.entry.text.now (tokens_of self.entry names.now) (optional_at (length self.entry.tokens.now) (look_of (source_of self.entry)) keyword at)) }
     {
-        if self.token(at).kind.is(keyword) {
+        if self.token(at).is(keyword) {
             self.conditions_fault(names, at + 1)
         } else {
             None

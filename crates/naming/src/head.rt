@@ -1,24 +1,19 @@
-ghost use Rattle.std.specs.Prelude.{◌≤◌};
+ghost use Rattle.std.specs.Prelude.{◌≤◌, unwrap_or};
+
+use crate::written::Written;
 
 // A number's name, or a list's with that of its length, by their tokens' numbers.
-#[derive(Clone, Copy)]
+#[derive(Clone, Copy, Debug, PartialEq, Eq)]
 pub struct Param {
     pub name: usize,
     pub length: Option<usize>,
 }
 
-// How far the parameters of a head are read: whether one stands here, and how many more there may be.
-#[derive(Clone, Copy)]
-pub struct Head {
-    pub at: usize,
-    pub rest: usize,
-    pub here: bool,
-    ghost within: { (at ≤ 16384) × (rest ≤ 16384) },
-}
-
-// A parameter, and the head after it.
-#[derive(Clone, Copy)]
-pub struct Step {
-    pub param: Param,
-    pub head: Head,
+// The parameters of a head that are still to come: where the next begins, and how many more there may be after it.
+#[derive(Clone, Copy, Drop)]
+pub struct Params<'t> {
+    pub(crate) sheet: Written<'t>,
+    pub(crate) next: Option<usize>,
+    pub(crate) rest: usize,
+    ghost within: { (unwrap_or next 0 ≤ 16384) × (rest ≤ 16384) },
 }

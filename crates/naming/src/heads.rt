@@ -1,20 +1,22 @@
-ghost use Rattle.std.specs.Prelude.{◌≡◌, ◌≤◌, [], ◌∷◌, length, Some, None};
+ghost use Rattle.std.specs.Prelude.{◌≡◌, ◌≤◌, drop, length, is_some, unwrap_or};
+ghost use Rattle.std.specs.Iterator.{item_count};
 ghost use Rattle.grammar.specs.Stretches.{params_at, param_at, past};
 ghost use Rattle.grammar.specs.Trees.{look_of};
+ghost use Rattle.naming.specs.Faults.{length_at};
 ghost use Rattle.naming.specs.Sources.{source_of};
-ghost use Rattle.naming.specs.Stretching.{left, written};
+ghost use Rattle.naming.specs.Stretching.{left, next_after, written, Gives};
 
-use crate::head::{Head, Param, Step};
+use crate::head::{Param, Params};
 use crate::written::Written;
 use letters::Kind;
 
-impl Written<'_> {
+impl<'t> Written<'t> {
     // The parameter at a position, and the position after it.
     fn param(self, at: usize) -> (Param, usize)
         requires { at ≤ 16384 }
         ensures { param_at (look_of (source_of self.entry)) at ≡ past (written (look_of (source_of self.entry)) result.0) result.1 }
     {
-        if self.token(at + 1).kind.is(Kind::OpenSquare) {
+        if self.token(at + 1).is(Kind::OpenSquare) {
             let length = Some(at + 2);
             (Param { name: at, length }, at + 4)
         } else {
@@ -28,54 +30,62 @@ impl Written<'_> {
         }
     }
 
-    // A head whose parameters begin at a position.
-    pub fn head(self, at: usize) -> Head
-        ensures { left (look_of (source_of self.entry)) result ≡ params_at (length self.entry.tokens.now) (look_of (source_of self.entry)) at }
+    // The parameters that begin at a position.
+    pub fn params(self, at: usize) -> Params<'t>
+        ensures params { left result ≡ params_at (length self.entry.tokens.now) (look_of (source_of self.entry)) at }
+        ensures sheet { result.sheet ≡ self.entry }
     {
         let at = at.min(self.tokens.len());
-        let here = !self.token(at).kind.is(Kind::Close);
-        Head {
-            at,
+        let next = (!self.token(at).is(Kind::Close)).then_some(at);
+        Params {
+            sheet: self,
+            next,
             rest: self.tokens.len(),
-            here,
         }
     }
+}
 
-    // The next parameter of a head, if there is one.
-    pub fn step(self, head: Head) -> Option<Step>
-        ensures { elim result [ Some s ↦ left (look_of (source_of self.entry)) head ≡ written (look_of (source_of self.entry)) s.param ∷ left (look_of (source_of self.entry)) s.head | None ↦ left (look_of (source_of self.entry)) head ≡ [] ] }
+impl Params<'_> {
+    // Where the next parameter begins after one that ends at a position: past the comma, if one stands there and there may be more. Only there does the sum stay within its type, so it stands in a branch.
+    fn after(&self, end: usize) -> Option<usize>
+        ensures told { result ≡ next_after (look_of (source_of self.now.sheet)) self.now.rest end }
+        ensures near { unwrap_or result 0 ≤ 16384 }
     {
-        if !head.here {
-            return None;
-        }
-        let (param, next) = self.param(head.at);
-        if head.rest > 0 && self.token(next).kind.is(Kind::Comma) {
-            let head = Head {
-                at: next + 1,
-                rest: head.rest - 1,
-                here: true,
-            };
-            Some(Step { param, head })
+        if self.rest > 0 && self.sheet.token(end).is(Kind::Comma) {
+            Some(end + 1)
         } else {
-            let head = Head {
-                at: 0,
-                rest: 0,
-                here: false,
-            };
-            Some(Step { param, head })
+            None
         }
     }
 
-    // How many parameters are left of a head.
-    pub fn count_left(self, head: Head) -> usize
-        ensures { result ≡ length (left (look_of (source_of self.entry)) head) }
+    // How many there are.
+    pub fn number(self) -> usize
+        ensures { result ≡ length (left self.entry) }
     {
-        let mut head = head;
-        let mut count = 0;
-        while let Some(step) = self.step(head) {
-            head = step.head;
-            count += 1;
-        }
-        count
+        self.count()
+    }
+
+    // Whether the next parameter is a list; past the last there is none.
+    pub fn wants_list(&mut self) -> bool
+        ensures list { result ≡ is_some (length_at (left self.old) 0) }
+        ensures left { left self.new ≡ drop 1 (left self.old) }
+    {
+        self.next().is_some_and(|param| param.length.is_some())
+    }
+}
+
+impl Iterator for Params<'_> {
+    type Item = Param;
+
+    ghost next_gives = { Gives };
+
+    ghost remaining = { item_count left };
+
+    fn next(&mut self) -> Option<Param> {
+        let at = self.next?;
+        let (param, end) = self.sheet.param(at);
+        self.next = self.after(end);
+        self.rest = self.rest.saturating_sub(1);
+        Some(param)
     }
 }

@@ -5,11 +5,8 @@ ghost use Rattle.naming.specs.Least.{merged};
 pub fn earlier(a: Option<usize>, b: Option<usize>) -> Option<usize>
     ensures { result ≡ merged a b }
 {
-    let Some(p) = a else {
-        return b;
-    };
-    match b {
-        Some(q) => Some(p.min(q)),
-        None => Some(p),
+    match (a, b) {
+        (Some(p), Some(q)) => Some(p.min(q)),
+        _ => a.or(b),
     }
 }

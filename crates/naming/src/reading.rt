@@ -1,9 +1,9 @@
-ghost use Rattle.std.specs.Prelude.{◌≡◌, ◌<◌, take, Some, None};
+ghost use Rattle.std.specs.Prelude.{◌≡◌, ◌<◌, length, take, Some, None};
 ghost use Rattle.grammar.specs.Trees.{look_of};
 ghost use Rattle.naming.specs.Sources.{source_of, node_in};
 
 use crate::written::Written;
-use grammar::Node;
+use grammar::{Node, Tokens};
 use letters::{MOST_BYTES, Token};
 
 // The first elements of a slice, as many as a text has bytes at most.
@@ -26,21 +26,25 @@ impl<'t> Written<'t> {
             nodes: front(nodes),
         }
     }
-}
 
-impl Written<'_> {
+    // The tokens, and where the text ends.
+    pub fn source(self) -> Tokens<'t>
+        ensures { (result.tokens.now ≡ self.entry.tokens.now) × (result.end ≡ length self.entry.text.now) }
+    {
+        Tokens {
+            tokens: self.tokens,
+            end: self.text.len(),
+        }
+    }
+
     // The token with this number, or the one that stands past the last.
     pub fn token(self, i: usize) -> Token
         ensures { result ≡ look_of (source_of self.entry) i }
     {
-        if i < self.tokens.len() {
-            self.tokens[i]
-        } else {
-            Token::end(self.text.len())
-        }
+        self.source().token(i)
     }
 
-    // The node at a position, if that lies below `top`.
+    // The node at a position, if that lies below `top`. The two are no struct of their own: a part is read below its parent, so both are other ones at each call.
     pub fn node(self, top: usize, at: usize) -> Option<Node>
         ensures read { result ≡ node_in top self.entry.nodes.now at }
         ensures below { elim result [ Some n ↦ at < top | None ↦ Unit {0} ] }

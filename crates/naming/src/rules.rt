@@ -1,7 +1,6 @@
 ghost use Rattle.std.specs.Prelude.{◌≡◌, ◌≤◌, [], ◌∷◌, is_some, if◌then◌else◌};
 ghost use Rattle.std.specs.List.{slice_get};
 ghost use Rattle.grammar.specs.Trees.{raw_at, rule_in, rules_to};
-ghost use Rattle.pile.specs.Entries.{entries, room};
 ghost use Rattle.naming.specs.Faults.{rules_faults, name_fault};
 ghost use Rattle.naming.specs.Least.{least};
 ghost use Rattle.naming.specs.Reaches.{sheet_of};
@@ -9,6 +8,7 @@ ghost use Rattle.naming.specs.Scopes as scopes;
 ghost use Rattle.naming.specs.Sources.{source_of, rules_of, sheet_in};
 
 use crate::least::earlier;
+use crate::scope::{LIST_ROOM, NAME_ROOM, Scope};
 use crate::written::Written;
 use grammar::Node;
 use letters::{Kind, Token};
@@ -19,47 +19,31 @@ impl Written<'_> {
     fn named_twice(self, at: usize, name: Token) -> Option<usize>
         ensures { result ≡ least (if is_some (scopes.rule_in self.entry.text.now (rules_to (source_of self.entry) at self.entry.nodes.now) name) then name.place ∷ [] else []) }
     {
-        match self.rule_named(at, name) {
-            Some(_) => Some(name.place),
-            None => None,
-        }
+        self.rule_named(at, name)?;
+        Some(name.place)
     }
 
     // The first fault of the rule at a position, if one stands there.
-    fn rule_fault(
-        self,
-        names: &mut Pile<'_, usize>,
-        lists: &mut Pile<'_, usize>,
-        at: usize,
-    ) -> Option<usize>
-        requires at { at ≤ 16384 }
-        requires names { 32769 ≤ room names.old }
-        requires lists { 16385 ≤ room lists.old }
-        ensures value { result ≡ least (rules_faults (sheet_of self.entry) (rules_to (source_of self.entry) at self.entry.nodes.now) (rule_in (source_of self.entry) (raw_at (source_of self.entry) at self.entry.nodes.now) (slice_get self.entry.nodes.now at))) }
-        ensures room { (room names.new ≡ room names.old) × (room lists.new ≡ room lists.old) }
+    fn rule_fault(self, scope: &mut Scope<'_>, at: usize) -> Option<usize>
+        requires { at ≤ 16384 }
+        ensures { result ≡ least (rules_faults (sheet_of self.entry) (rules_to (source_of self.entry) at self.entry.nodes.now) (rule_in (source_of self.entry) (raw_at (source_of self.entry) at self.entry.nodes.now) (slice_get self.entry.nodes.now at))) }
     {
-        let Some(rule) = self.rule(at) else {
-            return None;
-        };
-        names.fall_back(0);
-        lists.fall_back(0);
+        let rule = self.rule(at)?;
         let twice = self.named_twice(at, self.token(rule.name));
-        let head = self.declare(self.head(rule.params), names, lists);
-        let needs = self.optional_fault(names.as_slice(), Kind::Needs, rule.needs);
-        let gives = self.optional_fault(names.as_slice(), Kind::Gives, rule.gives);
-        let body = self.expr_fault(lists.as_slice(), names, at, rule.body);
+        let head = scope.enter(self.params(rule.params));
+        let needs = self.optional_fault(scope.names.as_slice(), Kind::Needs, rule.needs);
+        let gives = self.optional_fault(scope.names.as_slice(), Kind::Gives, rule.gives);
+        let body = self.expr_fault(scope.lists.as_slice(), &mut scope.names, at, rule.body);
         earlier(earlier(twice, head), earlier(earlier(needs, gives), body))
     }
 
     // The first fault of all rules.
-    fn rules_fault(self, names: &mut Pile<'_, usize>, lists: &mut Pile<'_, usize>) -> Option<usize>
-        requires names { 32769 ≤ room names.old }
-        requires lists { 16385 ≤ room lists.old }
+    fn rules_fault(self, scope: &mut Scope<'_>) -> Option<usize>
         ensures { result ≡ name_fault self.entry.text.now (rules_of self.entry) }
     {
         let mut fault = None;
         for at in 0..self.nodes.len() {
-            let here = self.rule_fault(names, lists, at);
+            let here = self.rule_fault(scope, at);
             fault = earlier(fault, here);
         }
         fault
@@ -70,10 +54,11 @@ impl Written<'_> {
 pub fn name_fault<'t>(text: &'t [u8], tokens: &'t [Token], nodes: &'t [Node]) -> Option<usize>
     ensures { result ≡ name_fault text.now (sheet_in text.now tokens.now nodes.now) }
 {
-    let mut name_room = [0; 32769];
-    let mut list_room = [0; 16385];
-    let mut names = Pile::over(&mut name_room);
-    let mut lists = Pile::over(&mut list_room);
-    let sheet = Written::new(text, tokens, nodes);
-    sheet.rules_fault(&mut names, &mut lists)
+    let mut name_room = [0; NAME_ROOM];
+    let mut list_room = [0; LIST_ROOM];
+    let mut scope = Scope {
+        names: Pile::over(&mut name_room),
+        lists: Pile::over(&mut list_room),
+    };
+    Written::new(text, tokens, nodes).rules_fault(&mut scope)
 }

@@ -7,6 +7,6 @@ mod reading;
 mod writing;
 
 pub use misread::Misread;
-pub use numerals::read_u32;
+pub use numerals::{read_u32, read_value};
 pub use reading::read_row;
 pub use writing::row_text;

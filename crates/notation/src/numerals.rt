@@ -1,20 +1,33 @@
-ghost use Rattle.std.specs.Prelude.{◌≡◌, IfOk, IfErr, decimal};
-ghost use Rattle.notation.specs.Misreadings.{NoNumber};
+ghost use Rattle.std.specs.Prelude.{◌≡◌, IfOk, IfErr, IfSome, IfNone, decimal};
+ghost use Rattle.notation.specs.Misreadings.{NoNumber, WritesNone};
 
 use crate::misread::Misread;
-use std::alloc::Global;
+use std::alloc::{AllocError, Global};
+use std::fmt::Display;
+use std::str::FromStr;
+
+// The value that a word writes, if it writes one in the form that it is printed in.
+pub fn read_value<T>(heap: Global, word: &str) -> Result<Option<T>, AllocError>
+where
+    T: FromStr + Display + Drop,
+    T::Err: Drop,
+    ensures reads { IfOk result (λ found. IfSome found (λ value. IfSome (T.output value) (λ text. word.now ≡ text))) }
+    ensures none { IfOk result (λ found. IfNone found (WritesNone T.from_str_gives T.output word.now)) }
+{
+    let Ok(value) = word.parse::<T>() else {
+        return Ok(None);
+    };
+    let written = value.to_string(heap)?;
+    if written.as_str() != word {
+        return Ok(None);
+    }
+    Ok(Some(value))
+}
 
 // The number that a word writes; it is refused where it writes none.
 pub fn read_u32(heap: Global, word: &str) -> Result<u32, Misread>
     ensures reads { IfOk result (λ n. word.now ≡ decimal n) }
     ensures refuses { IfErr result (λ e. NoNumber e word.now) }
 {
-    let Ok(n) = word.parse::<u32>() else {
-        return Err(Misread::Number);
-    };
-    let written = format!(in heap; "{n}")?;
-    if written.as_str() != word {
-        return Err(Misread::Number);
-    }
-    Ok(n)
+    read_value::<u32>(heap, word)?.ok_or(Misread::Number)
 }

@@ -7,12 +7,10 @@ use rows::{Kind, QUANTITIES, Row};
 use std::alloc::Global;
 
 fn read_kind(word: &str) -> Result<Kind, Misread> {
-    if word == "<=" {
-        Ok(Kind::AtMost)
-    } else if word == "!=" {
-        Ok(Kind::Unequal)
-    } else {
-        Err(Misread::Relation)
+    match word {
+        "<=" => Ok(Kind::AtMost),
+        "!=" => Ok(Kind::Unequal),
+        _ => Err(Misread::Relation),
     }
 }
 
@@ -20,15 +18,9 @@ fn read_kind(word: &str) -> Result<Kind, Misread> {
 fn read_term(word: &str) -> Result<(i32, usize), Misread>
     ensures { IfOk result (λ t. t.1 < 16) }
 {
-    let Some((number, name)) = word.split_once("*q") else {
-        return Err(Misread::Term);
-    };
-    let Ok(c) = number.parse::<i32>() else {
-        return Err(Misread::Limits);
-    };
-    let Ok(j) = name.parse::<usize>() else {
-        return Err(Misread::Quantity);
-    };
+    let (number, name) = word.split_once("*q").ok_or(Misread::Term)?;
+    let c = number.parse::<i32>().map_err(|_| Misread::Limits)?;
+    let j = name.parse::<usize>().map_err(|_| Misread::Quantity)?;
     if j >= QUANTITIES {
         return Err(Misread::Quantity);
     }
@@ -49,21 +41,12 @@ fn read_terms(text: &str) -> Result<[i32; 16], Misread> {
 
 // Some row that the text may write.
 fn guess_row(text: &str) -> Result<Row, Misread> {
-    let Some((front, number)) = text.rsplit_once(' ') else {
-        return Err(Misread::Short);
-    };
-    let Some((terms, relation)) = front.rsplit_once(' ') else {
-        return Err(Misread::Short);
-    };
+    let (front, number) = text.rsplit_once(' ').ok_or(Misread::Short)?;
+    let (terms, relation) = front.rsplit_once(' ').ok_or(Misread::Short)?;
     let kind = read_kind(relation)?;
-    let Ok(bound) = number.parse::<i32>() else {
-        return Err(Misread::Bound);
-    };
+    let bound = number.parse::<i32>().map_err(|_| Misread::Bound)?;
     let coefs = read_terms(terms)?;
-    match Row::new(coefs, bound, kind) {
-        Some(row) => Ok(row),
-        None => Err(Misread::Limits),
-    }
+    Row::new(coefs, bound, kind).ok_or(Misread::Limits)
 }
 
 // The row that a text writes; there is one text for each row.

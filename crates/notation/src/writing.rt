@@ -1,55 +1,91 @@
-ghost use Rattle.std.specs.Prelude.{◌≡◌, ◌++◌, IfOk, string_bytes, OnOk};
+ghost use Rattle.std.specs.Prelude.{◌≡◌, ◌++◌, Some, IfOk, string_bytes};
 ghost use Rattle.notation.specs.Written.{relation, term_text, terms_to, or_zero, row_text};
 
-use rows::{Kind, QUANTITIES, Row};
+use rows::{Kind, Row};
 use std::alloc::{AllocError, Global};
+use std::fmt;
 
-fn relation_text(kind: Kind) -> &'static str
-    ensures { result.now ≡ relation kind }
-{
-    match kind {
-        Kind::AtMost => "<= ",
-        Kind::Unequal => "!= ",
+// The relation that a kind of row is written with, and a blank.
+#[derive(Clone, Copy)]
+struct Relation(Kind);
+
+impl fmt::Display for Relation {
+    ghost output = { λ r. Some (relation r.0) };
+
+    fn fmt<W: fmt::Write>(&self, f: &mut fmt::Formatter<W>) -> fmt::Result {
+        f.write_str(match self.0 {
+            Kind::AtMost => "<= ",
+            Kind::Unequal => "!= ",
+        })
     }
 }
 
-fn push_term(heap: Global, text: &mut String, c: i32, j: usize) -> Result<(), AllocError>
-    ensures { OnOk result (string_bytes text.new ≡ string_bytes text.old ++ term_text c j) }
-{
-    if c == 0 {
-        return Ok(());
+// A coefficient, its quantity and a blank; nothing where the coefficient is 0.
+#[derive(Clone, Copy)]
+struct Term(i32, usize);
+
+impl fmt::Display for Term {
+    ghost output = { λ t. Some (term_text t.0 t.1) };
+
+    fn fmt<W: fmt::Write>(&self, f: &mut fmt::Formatter<W>) -> fmt::Result {
+        let Term(c, j) = *self;
+        if c == 0 {
+            return Ok(());
+        }
+        write!(f, "{c}*q{j} ")
     }
-    let term = format!(in heap; "{c}*q{j} ")?;
-    text.push_str(term.as_str())
 }
 
-fn terms_text(heap: Global, row: &Row) -> Result<String, AllocError>
-    ensures { IfOk result (λ s. string_bytes s ≡ terms_to row.now 16) }
-{
-    let mut text = String::new(heap);
-    for j in 0..QUANTITIES {
-        push_term(heap, &mut text, row.coef(j), j)?;
+// The terms of a row, in the order of their quantities.
+#[derive(Clone, Copy)]
+struct Terms<'a>(&'a Row);
+
+impl fmt::Display for Terms<'_> {
+    ghost output = { λ t. Some (terms_to t.0.now 16) };
+
+    fn fmt<W: fmt::Write>(&self, f: &mut fmt::Formatter<W>) -> fmt::Result {
+        for (j, c) in self.0.coefs().iter().enumerate() {
+            let term = Term(*c, j);
+            write!(f, "{term}")?;
+        }
+        Ok(())
     }
-    Ok(text)
 }
 
-fn sum_text(heap: Global, row: &Row) -> Result<String, AllocError>
-    ensures { IfOk result (λ s. string_bytes s ≡ or_zero (terms_to row.now 16)) }
-{
-    let text = terms_text(heap, row)?;
-    if text.is_empty() {
-        return String::from_str(heap, "0 ");
+// The terms of a row, or 0 where it has none.
+#[derive(Clone, Copy)]
+struct Sum<'a>(&'a Row);
+
+impl fmt::Display for Sum<'_> {
+    ghost output = { λ s. Some (or_zero (terms_to s.0.now 16)) };
+
+    fn fmt<W: fmt::Write>(&self, f: &mut fmt::Formatter<W>) -> fmt::Result {
+        if self.0.coefs().iter().all(|c| *c == 0) {
+            return f.write_str("0 ");
+        }
+        let terms = Terms(self.0);
+        write!(f, "{terms}")
     }
-    Ok(text)
 }
 
-// The row as it is written: its non-zero coefficients or 0, the relation, the bound.
+// A row as it is written: its terms or 0, the relation, the bound.
+#[derive(Clone, Copy)]
+struct Written<'a>(&'a Row);
+
+impl fmt::Display for Written<'_> {
+    ghost output = { λ w. Some (row_text w.0.now) };
+
+    fn fmt<W: fmt::Write>(&self, f: &mut fmt::Formatter<W>) -> fmt::Result {
+        let sum = Sum(self.0);
+        let relation = Relation(self.0.kind());
+        let bound = self.0.bound();
+        write!(f, "{sum}{relation}{bound}")
+    }
+}
+
+// The row as it is written.
 pub fn row_text(heap: Global, row: &Row) -> Result<String, AllocError>
     ensures { IfOk result (λ s. string_bytes s ≡ row_text row.now) }
 {
-    let sum = sum_text(heap, row)?;
-    let sum = sum.as_str();
-    let relation = relation_text(row.kind());
-    let bound = row.bound();
-    format!(in heap; "{sum}{relation}{bound}")
+    Written(row).to_string(heap)
 }

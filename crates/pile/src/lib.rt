@@ -3,9 +3,12 @@
 
 ghost use Rattle.std.specs.Prelude.{◌≤◌, length};
 
+mod full;
 mod methods;
 
-// The first `len` slots are the entries, in the order in which they were pushed; the others are room.
+pub use full::Full;
+
+// The first `len` slots are the entries, in the order in which they were pushed; the others are room. Its memory is lent by the caller, so it is no Vec.
 #[derive(Drop)]
 pub struct Pile<'a, T> {
     slots: &'a mut [T],

@@ -1,15 +1,8 @@
-ghost use Rattle.std.specs.Prelude.{◌≡◌, [], ◌∷◌, ◌++◌, length, take, if◌then◌else◌, nat_lt};
+ghost use Rattle.std.specs.Prelude.{◌≡◌, [], ◌∷◌, ◌++◌, length, take, if◌then◌else◌, is_ok, nat_lt};
 ghost use Rattle.std.specs.List.{slice_get};
 ghost use Rattle.pile.specs.Entries.{entries, room};
 
-use super::Pile;
-
-// The element at a position, or none past the end.
-fn at<T: Copy>(xs: &[T], i: usize) -> Option<T>
-    ensures { result ≡ slice_get xs.now i }
-{
-    if i < xs.len() { Some(xs[i]) } else { None }
-}
+use super::{Full, Pile};
 
 impl<'a, T: Copy> Pile<'a, T> {
     // An empty pile with the whole slice as its room.
@@ -38,22 +31,21 @@ impl<'a, T: Copy> Pile<'a, T> {
     pub fn look(&self, i: usize) -> Option<T>
         ensures { result ≡ slice_get (entries self.now) i }
     {
-        at(self.as_slice(), i)
+        self.as_slice().get(i).copied()
     }
 
-    // Puts an entry on top. Where there is no room, the answer is false and nothing changes.
-    pub fn push(&mut self, entry: T) -> bool
+    // Puts an entry on top. Where there is no room, that is the answer and nothing changes.
+    pub fn push(&mut self, entry: T) -> Result<(), Full>
         ensures room { room self.new ≡ room self.old }
-        ensures value { result ≡ nat_lt (length (entries self.old)) (room self.old) }
-        ensures held { entries self.new ≡ (if result then entries self.old ++ entry ∷ [] else entries self.old) }
+        ensures value { is_ok result ≡ nat_lt (length (entries self.old)) (room self.old) }
+        ensures held { entries self.new ≡ (if is_ok result then entries self.old ++ entry ∷ [] else entries self.old) }
     {
-        if self.len < self.slots.len() {
-            self.slots[self.len] = entry;
-            self.len += 1;
-            true
-        } else {
-            false
+        if self.len >= self.slots.len() {
+            return Err(Full);
         }
+        self.slots[self.len] = entry;
+        self.len += 1;
+        Ok(())
     }
 
     // Takes away the entries from the mark on; a mark above the top takes none.

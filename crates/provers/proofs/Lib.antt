@@ -1,3 +1,4 @@
 pub mod Limited
 pub mod Pushing
 pub mod Making
+pub mod Starting

@@ -1,6 +1,8 @@
--- Loops that divide each number and hold it to a limit.
-use Rattle.std.proofs.Common.{◌≡◌, ℕ, ◌+◌, ◌<◌, ◌≤◌, Bool, true, false, cond, ◌&&◌, List, [], ◌∷◌, ◌++◌, map, length, get_or, take, drop, set, ℤ, Some, None, sym, refl, ap, ◌∙◌, ap₂, arith}
-use Rattle.std.proofs.lemmas.List.{drop_more, drop_all, take_all, take_more, take_more_set, length-set, length-map, get_or-map}
+-- Numbers that are each held to a limit.
+use Rattle.std.proofs.Common.{◌≡◌, ℕ, zero, suc, ◌<◌, Bool, true, false, cond, ◌&&◌, List, [], ◌∷◌, map, length, get_or, ℤ, Some, None, sym, refl, ap, ◌∙◌, ap₂, arith}
+use Rattle.std.specs.Prelude.{Ok, Err, Result}
+use Rattle.std.specs.Result.{IsErr, result_ok}
+use Rattle.std.proofs.lemmas.Bool.{true≢false, and_right}
 use Rattle.rows.specs.Limits.{small, all_small}
 use Rattle.provers.specs.Derivations.{kept, modest, all_modest}
 
@@ -10,50 +12,37 @@ kept-some test x y h =
     let both : F (test x) = elim (test x) as F [ true ↦ λ e. (refl, cc) | false ↦ λ e. (cc, cc) ] in
     both h
 
+-- a call that refused gives nothing
+pub unresulted : {X E : Type 0} (r : Result X E) → IsErr r → result_ok r ≡ None
+unresulted (Ok x) h = absurd (true≢false (sym h))
+unresulted (Err e) h = refl
+
 pub kept-none : {X : Type 0} (test : X → Bool) (x : X) → None ≡ kept test x → test x ≡ false
 kept-none test x h =
     let F : Bool → Type 0 = λ b. None ≡ cond b (Some x) None → b ≡ false in
     let both : F (test x) = elim (test x) as F [ true ↦ λ e. cc | false ↦ λ e. refl ] in
     both h
 
-module _ {X Y : Type 0} (test : Y → Bool) (all : List Y → Bool) (none : all [] ≡ true) (more : (y : Y) (ys : List Y) → all (y ∷ ys) ≡ (test y && all ys)) (f : X → Y) (xs : List X) where
-  abbrev ys : List Y
-  ys = map f xs
+module _ {X Y : Type 0} (test : Y → Bool) (all : List Y → Bool) (none : all [] ≡ true) (more : (y : Y) (ys : List Y) → all (y ∷ ys) ≡ (test y && all ys)) (f : X → Y) where
+  -- each passes
+  pub all_kept : (d : X) (e : Y) (xs : List X) (ys : List Y) → length xs ≡ length ys → ((i : ℕ) → i < length xs → Some (get_or ys i e) ≡ kept test (f (get_or xs i d))) → Some ys ≡ kept all (map f xs)
+  all_kept d e [] [] l h = sym (ap (λ b. cond b (Some []) None) none)
+  all_kept d e [] (y ∷ ys) l h = let no : ⊥ = omega arith in absurd no
+  all_kept d e (x ∷ xs) [] l h = let no : ⊥ = omega arith in absurd no
+  all_kept d e (x ∷ xs) (y ∷ ys) l h =
+      let k = kept-some test (f x) y (h 0 (omega arith)) in
+      let r = kept-some all (map f xs) ys (all_kept d e xs ys (omega arith) (λ i j. h (suc i) (omega arith))) in
+      let t : all (map f (x ∷ xs)) ≡ true = more (f x) (map f xs) ∙ ap₂ (λ a b. a && b) k.0 r.0 in
+      ap Some (ap₂ (λ z zs. z ∷ zs) (sym k.1) (sym r.1)) ∙ sym (ap (λ b. cond b (Some (map f (x ∷ xs))) None) t)
 
-  -- the first i are done, and pass
-  pub record Held (out : List Y) (i : ℕ) : Type 0 where
-    pub long : length out ≡ length xs
-    pub same : take i out ≡ take i ys
-    pub rest : all ys ≡ all (drop i ys)
+  -- one does not
+  none-all : (d : X) (xs : List X) (i : ℕ) → i < length xs → test (f (get_or xs i d)) ≡ false → all (map f xs) ≡ false
+  none-all d [] i l h = let no : ⊥ = omega arith in absurd no
+  none-all d (y ∷ xs) zero l h = more (f y) (map f xs) ∙ ap (λ b. b && all (map f xs)) h
+  none-all d (y ∷ xs) (suc i) l h = more (f y) (map f xs) ∙ and_right (test (f y)) _ (none-all d xs i (omega arith) h)
 
-  pub held_start : (out : List Y) → length out ≡ length xs → Held out 0
-  held_start out h = record { long = h; same = refl; rest = refl }
-
-  module _ (out : List Y) (i : ℕ) (d : X) (h : Held out i) where
-    test-more : i < length xs → all (drop i ys) ≡ (test (f (get_or xs i d)) && all (drop (i + 1) ys))
-    test-more l =
-        let n : i < length ys = omega (arith, length-map xs f) in
-        ap all (drop_more ys i (f d) n) ∙ more (get_or ys i (f d)) (drop (i + 1) ys) ∙ ap (λ y. test y && all (drop (i + 1) ys)) (get_or-map f xs i d (f d) l)
-
-    pub held_none : i < length xs → None ≡ kept test (f (get_or xs i d)) → None ≡ kept all ys
-    held_none l e = sym (ap (λ b. cond b (Some ys) None) (h.rest ∙ test-more l ∙ ap (λ b. b && all (drop (i + 1) ys)) (kept-none test _ e)))
-
-    pub held_more : (y : Y) → i < length xs → Some y ≡ kept test (f (get_or xs i d)) → Held (set out i y) (i + 1)
-    held_more y l e =
-        let k = kept-some test _ y e in
-        let n : i < length ys = omega (arith, length-map xs f) in
-        let o : i < length out = omega (arith, h.long) in
-        record {
-          long = length-set out i y ∙ h.long;
-          same = take_more_set out i y o ∙ ap₂ (λ zs z. zs ++ z ∷ []) h.same (sym (get_or-map f xs i d (f d) l ∙ k.1)) ∙ sym (take_more ys i (f d) n);
-          rest = h.rest ∙ test-more l ∙ ap (λ b. b && all (drop (i + 1) ys)) k.0;
-        }
-
-    pub held_all : length xs ≤ i → Some out ≡ kept all ys
-    held_all l =
-        let n : length ys ≤ i = omega (arith, length-map xs f) in
-        let e = sym (take_all i out (omega (arith, h.long))) ∙ h.same ∙ take_all i ys n in
-        ap Some e ∙ sym (ap (λ b. cond b (Some ys) None) (h.rest ∙ ap all (drop_all i ys n) ∙ none))
+  pub none_kept : (d : X) (xs : List X) (i : ℕ) → i < length xs → None ≡ kept test (f (get_or xs i d)) → None ≡ kept all (map f xs)
+  none_kept d xs i l h = sym (ap (λ b. cond b (Some (map f xs)) None) (none-all d xs i l (kept-none test (f (get_or xs i d)) h)))
 
 -- the two tests of a derived row's numbers
 pub small-none : all_small [] ≡ true

@@ -1,14 +1,47 @@
 -- Loops that push rows, and quantities that leave in turn.
 use Rattle.std.proofs.Common.{◌≡◌, ℕ, suc, ◌+◌, ◌-◌, ◌<◌, ◌≤◌, true, false, cond, ltb, List, [], ◌∷◌, ◌++◌, length, get_or, drop, pos, Some, None, Option, sym, refl, ap, ◌∙◌, arith}
-use Rattle.std.specs.List.{range_with_len, flat_map}
+use Rattle.std.specs.Prelude.{◌↔◌, Ok, Err, Result}
+use Rattle.std.specs.Result.{IsErr, IsOk, OnOk, is_ok, result_ok}
+use Rattle.std.proofs.lemmas.Bool.{true≢false, lt-ltb}
+use Rattle.std.proofs.lemmas.Bool.Decides.{nat_tests}
+use Rattle.provers.specs.declared.worklist.PastLimit.{PastLimit}
+use Rattle.provers.specs.WorkLists.{answered}
+use Rattle.std.specs.List.{range_with_len, flat_map, find}
+use Rattle.std.specs.Option.{option_map}
+use lib.Signed.{lt_z}
 use Rattle.std.proofs.lemmas.List.{drop_more, drop_all}
 use Rattle.rows.specs.declared.row.Row.{Row}
 use Rattle.provers.specs.declared.derived.Derived.{Derived}
-use Rattle.provers.specs.Elimination.{bind, push_all, fact_of, goal_of, originals, without, without_all, from}
+use Rattle.provers.specs.Elimination.{bind, push_all, fact_of, goal_of, originals, without, without_all, from, first_below}
 
 -- what stands past the end of a list of rows
 abbrev pub blank : Derived
 blank = record { coefs = []; bound = pos 0; times = [] }
+
+-- a call that was refused leaves no whole list
+pub unanswered : (r : Result (Unit {0}) PastLimit) (rows : List Derived) → IsErr r → answered r rows ≡ None
+unanswered (Ok u) rows h = absurd (true≢false (sym h))
+unanswered (Err e) rows h = refl
+
+ltb-none : (a b : ℕ) → (a < b → ⊥) → ltb a b ≡ false
+ltb-none a b h = grind (arith, nat_tests)
+
+-- the same, where only the value was asked
+pub none_answered : (r : Result (Unit {0}) PastLimit) (rows : List Derived) → None ≡ result_ok r → answered r rows ≡ None
+none_answered (Ok u) rows h = let no : ◌≡◌ {A = ℕ} 0 1 = cc in let bad : ⊥ = omega arith in absurd bad
+none_answered (Err e) rows h = refl
+
+pub some_answered : (u : Unit {0}) (r : Result (Unit {0}) PastLimit) (rows : List Derived) → Some u ≡ result_ok r → answered r rows ≡ Some rows
+some_answered u (Ok v) rows h = refl
+some_answered u (Err e) rows h = let no : ◌≡◌ {A = ℕ} 0 1 = cc in let bad : ⊥ = omega arith in absurd bad
+
+-- a push that may be refused
+pub pushed : {E : Type 0} (r : Result (Unit {0}) E) (m : Result (Unit {0}) PastLimit) (old new : List Derived) (row : Derived) → is_ok m ≡ is_ok r → (IsOk r ↔ (length old < 128)) → OnOk r (new ≡ old ++ row ∷ []) → answered m new ≡ push_all old (Some row ∷ [])
+unfolding push_all
+pushed (Ok u) (Ok v) old new row e f g = ap Some g ∙ sym (ap (λ b. cond b (Some (old ++ row ∷ [])) None) (lt-ltb (length old) 128 (f.0 refl)))
+pushed (Ok u) (Err v) old new row e f g = absurd (true≢false (sym e))
+pushed (Err u) (Ok v) old new row e f g = absurd (true≢false e)
+pushed (Err u) (Err v) old new row e f g = sym (ap (λ b. cond b (Some (old ++ row ∷ [])) None) (ltb-none (length old) 128 (λ l. true≢false (sym (f.1 l)))))
 
 pub push-append : (rows : List Derived) (xs ys : List (Option Derived)) → push_all rows (xs ++ ys) ≡ bind (push_all rows xs) (λ rs. push_all rs ys)
 unfolding push_all
@@ -70,3 +103,10 @@ module _ (a : List Derived) (facts : List Row) (goal : Row) (i : ℕ) where
   pub fact-end : length facts ≤ i → push_all a (originals i (drop i facts) goal) ≡ push_all a (goal_of i goal)
   unfolding originals
   fact-end h = ap (λ l. push_all a (originals i l goal)) (drop_all i facts h)
+
+pub first_is : (rows : List Derived) → option_map (λ r. r.times) (find (λ r. lt_z r.bound (pos 0)) rows) ≡ first_below rows
+unfolding first_below
+first_is [] = refl
+first_is (r ∷ rs) =
+    elim (lt_z r.bound (pos 0)) as (λ b. option_map (λ r. r.times) (cond b (Some r) (find (λ r. lt_z r.bound (pos 0)) rs)) ≡ cond b (Some r.times) (first_below rs))
+    [ true ↦ refl | false ↦ first_is rs ]

@@ -1,12 +1,9 @@
--- A work list as the list of its rows.
-use Rattle.std.specs.Prelude.{List, take, Some, None, Option}
+-- What a call that pushes rows leaves of a work list.
+use Rattle.std.specs.Prelude.{List, Ok, Err, Some, None, Option, Result}
 use Rattle.provers.specs.declared.derived.Derived.{Derived}
-use Rattle.provers.specs.declared.worklist.WorkList.{WorkList}
-
-abbrev pub entries : WorkList → List Derived
-entries w = take w.count w.rows
+use Rattle.provers.specs.declared.worklist.PastLimit.{PastLimit}
 
 -- the list, where the call said that it is whole
-abbrev pub answered : Option (Unit {0}) → List Derived → Option (List Derived)
-answered None rows = None
-answered (Some _) rows = Some rows
+abbrev pub answered : Result (Unit {0}) PastLimit → List Derived → Option (List Derived)
+answered (Ok _) rows = Some rows
+answered (Err _) rows = None

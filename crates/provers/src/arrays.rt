@@ -1,52 +1,22 @@
-ghost use Rattle.std.specs.Prelude.{◌≡◌, ◌+◌, ◌*◌, ◌/◌, ◌<◌, ◌≤◌, map, pos, slice_index, slice_index_or};
-ghost use Rattle.std.specs.List.{range_with_len};
-ghost use Rattle.rows.specs.Limits.{all_small};
-ghost use Rattle.provers.specs.Derivations.{blend, quotient, kept, all_modest};
+ghost use Rattle.std.specs.Prelude.{◌≡◌, ℕ, ◌<◌, Ok, Err, IfOk, IfErr, length, slice_index_or};
 
-use crate::derived::MULTIPLIERS;
-use crate::numbers::{blend, blend_count, divide, divide_count};
-use rows::QUANTITIES;
+use crate::worklist::PastLimit;
 
-pub(crate) fn blend_coefs(a: u32, xs: &[i32; 16], b: u32, ys: &[i32; 16]) -> [i64; 16]
-    requires { (a ≤ 2147483648) × (b < 2147483648) }
-    ensures { result ≡ map (λ j. blend a b (slice_index_or xs.now j (pos 0)) (slice_index_or ys.now j (pos 0))) (range_with_len 0 16) }
+// What f makes of each element, or the first refusal.
+// std's `try_map` does not fit: what it ensures of the calls forgets what f holds.
+pub(crate) fn try_each<
+    X: Copy,
+    Y: Copy + Default,
+    const N: usize,
+    F: Fn(X) -> Result<Y, PastLimit>,
+>(xs: &[X; N], f: F) -> Result<[Y; N], PastLimit>
+    requires { F.IsAlwaysCallable f }
+    ensures made { IfOk result (λ ys. (length ys ≡ N) × ((i : ℕ) (x : X) (y : Y) → i < N → F.post f (slice_index_or xs.now i x) (Ok (slice_index_or ys i y)))) }
+    ensures refused { IfErr result (λ e. (i : ℕ) × (x : X) × (i < N) × F.post f (slice_index_or xs.now i x) (Err e)) }
 {
-    let mut sums = [0i64; 16];
-    for j in 0..QUANTITIES {
-        sums[j] = blend(a, xs[j], b, ys[j]);
+    let mut ys = [Y::default(); N];
+    for (i, x) in xs.iter().enumerate() {
+        ys[i] = f(*x)?;
     }
-    sums
-}
-
-pub(crate) fn blend_times(a: u32, xs: &[u32; 25], b: u32, ys: &[u32; 25]) -> [u64; 25]
-    requires { (a ≤ 2147483648) × (b < 2147483648) }
-    ensures { result ≡ map (λ i. a * slice_index xs.now i + b * slice_index ys.now i) (range_with_len 0 25) }
-{
-    let mut sums = [0u64; 25];
-    for i in 0..MULTIPLIERS {
-        sums[i] = blend_count(a, xs[i], b, ys[i]);
-    }
-    sums
-}
-
-pub(crate) fn divide_coefs(g: u64, xs: &[i64; 16]) -> Option<[i32; 16]>
-    requires { 0 < g }
-    ensures { result ≡ kept all_small (map (quotient g) xs.now) }
-{
-    let mut quotients = [0i32; 16];
-    for j in 0..QUANTITIES {
-        quotients[j] = divide(g, xs[j])?;
-    }
-    Some(quotients)
-}
-
-pub(crate) fn divide_times(g: u64, xs: &[u64; 25]) -> Option<[u32; 25]>
-    requires { 0 < g }
-    ensures { result ≡ kept all_modest (map (λ n. n / g) xs.now) }
-{
-    let mut quotients = [0u32; 25];
-    for i in 0..MULTIPLIERS {
-        quotients[i] = divide_count(g, xs[i])?;
-    }
-    Some(quotients)
+    Ok(ys)
 }

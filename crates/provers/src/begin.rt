@@ -1,36 +1,25 @@
-ghost use Rattle.std.specs.Prelude.{◌≡◌, ◌<◌, ◌≤◌, [], map, length, neg_ℤ};
+ghost use Rattle.std.specs.Prelude.{◌≡◌, [], map, neg_ℤ};
 ghost use Rattle.std.specs.List.{range_with_len};
 ghost use Rattle.rows.specs.Meaning.{coef};
-ghost use Rattle.provers.specs.Derivations.{original, negation};
+ghost use Rattle.provers.specs.Derivations.{negation};
 ghost use Rattle.provers.specs.Elimination.{push_all, fact_of, goal_of, originals};
-ghost use Rattle.provers.specs.WorkLists.{entries, answered};
+ghost use Rattle.provers.specs.WorkLists.{answered};
 
 use crate::derived::Derived;
-use crate::worklist::WorkList;
-use rows::{Kind, QUANTITIES, Question, Row};
+use crate::worklist::{PastLimit, WorkList, push};
+use rows::{Kind, Question, Row};
+use std::array;
 
-// The row itself, as the i-th of the facts and the negated goal.
-fn original(i: usize, row: &Row) -> Derived
-    requires { i < 25 }
-    ensures { result ≡ original i row.now }
+fn negated_coef(row: &Row, j: usize) -> i32
+    ensures { result ≡ neg_ℤ (coef row.now j) }
 {
-    let mut times = [0u32; 25];
-    times[i] = 1;
-    Derived {
-        coefs: row.coefs(),
-        bound: row.bound(),
-        times,
-    }
+    -row.coef(j)
 }
 
 fn negated_coefs(row: &Row) -> [i32; 16]
     ensures { result ≡ map (λ j. neg_ℤ (coef row.now j)) (range_with_len 0 16) }
 {
-    let mut coefs = [0i32; 16];
-    for j in 0..QUANTITIES {
-        coefs[j] = -row.coef(j);
-    }
-    coefs
+    array::from_fn(|j| negated_coef(row, j))
 }
 
 // None where the bound leaves a row's limits.
@@ -41,28 +30,27 @@ fn negation(row: &Row) -> Option<Row>
 }
 
 // The fact, if it is of kind at most.
-fn push_fact(i: usize, fact: &Row, into: &mut WorkList) -> Option<()>
-    requires { i < 25 }
-    ensures { answered result (entries into.new) ≡ push_all (entries into.old) (fact_of i fact.now) }
+#[tactic(auto, unfolding(crate::specs::Elimination::push_all))]
+fn push_fact(i: usize, fact: &Row, into: &mut WorkList) -> Result<(), PastLimit>
+    ensures { answered result into.new.items ≡ push_all into.old.items (fact_of i fact.now) }
 {
     match fact.kind() {
-        Kind::AtMost => into.push(original(i, fact)),
-        Kind::Unequal => Some(()),
+        Kind::AtMost => push(into, Derived::original(i, fact)),
+        Kind::Unequal => Ok(()),
     }
 }
 
-fn push_goal(i: usize, goal: &Row, into: &mut WorkList) -> Option<()>
-    requires { i < 25 }
-    ensures { answered result (entries into.new) ≡ push_all (entries into.old) (goal_of i goal.now) }
+#[tactic(auto, unfolding(crate::specs::Elimination::push_all))]
+fn push_goal(i: usize, goal: &Row, into: &mut WorkList) -> Result<(), PastLimit>
+    ensures { answered result into.new.items ≡ push_all into.old.items (goal_of i goal.now) }
 {
-    let negated = negation(goal)?;
-    into.push(original(i, &negated))
+    let negated = negation(goal).ok_or(PastLimit)?;
+    push(into, Derived::original(i, &negated))
 }
 
 // Puts the facts of kind at most and the negated goal on the list.
-pub(crate) fn begin(question: Question<'_>, into: &mut WorkList) -> Option<()>
-    requires { length question.facts.now ≤ 24 }
-    ensures { answered result (entries into.new) ≡ push_all (entries into.old) (originals 0 question.entry.facts.now question.entry.goal.now) }
+pub(crate) fn begin(question: Question<'_>, into: &mut WorkList) -> Result<(), PastLimit>
+    ensures { answered result into.new.items ≡ push_all into.old.items (originals 0 question.entry.facts.now question.entry.goal.now) }
 {
     for (i, fact) in question.facts.iter().enumerate() {
         push_fact(i, fact, into)?;

@@ -1,37 +1,54 @@
 ghost use Rattle.std.specs.Prelude.{◌≡◌, ◌<◌, pos, ◌<ℤ◌};
+ghost use Rattle.std.specs.Result.{result_ok};
 ghost use Rattle.provers.specs.Derivations.{coef_at, quotients, within, kept, combine};
 
-use crate::arrays::{blend_coefs, blend_times, divide_coefs, divide_times};
+use crate::arrays::try_each;
 use crate::derived::Derived;
-use crate::numbers::{blend, divide};
-use ints::divisor;
+use crate::numbers::{Blend, Divisor};
+use crate::worklist::PastLimit;
+use std::array;
 
-// Everything divided by g, where that keeps the limits.
-fn reduce(g: u64, coefs: &[i64; 16], bound: i64, times: &[u64; 25]) -> Option<Derived>
-    requires { 0 < g }
-    ensures { result ≡ kept within (quotients g coefs.now bound times.now) }
+// Everything divided, where that keeps the limits.
+fn reduce(
+    by: Divisor,
+    coefs: &[i64; 16],
+    bound: i64,
+    times: &[u64; 25],
+) -> Result<Derived, PastLimit>
+    ensures { result_ok result ≡ kept within (quotients by.g coefs.now bound times.now) }
 {
-    let bound = divide(g, bound)?;
-    let coefs = divide_coefs(g, coefs)?;
-    let times = divide_times(g, times)?;
-    Some(Derived {
+    let bound = by.coef(bound)?;
+    let coefs = try_each(coefs, |z| by.coef(z))?;
+    let times = try_each(times, |n| by.count(n))?;
+    Ok(Derived {
         coefs,
         bound,
         times,
     })
 }
 
-// The row without q that follows from p, which is positive there, and m, which is negative there.
-pub(crate) fn combined(q: usize, p: &Derived, m: &Derived) -> Option<Derived>
-    requires quantity { q < 16 }
-    requires positive { pos 0 <ℤ coef_at q p.now }
-    ensures { result ≡ combine q p.now m.now }
-{
-    let a = m.coefs[q].unsigned_abs();
-    let b = p.coefs[q].unsigned_abs();
-    let coefs = blend_coefs(a, &p.coefs, b, &m.coefs);
-    let bound = blend(a, p.bound, b, m.bound);
-    let times = blend_times(a, &p.times, b, &m.times);
-    let g = divisor(&times);
-    reduce(g, &coefs, bound, &times)
+// A row that is positive at the quantity q.
+#[derive(Clone, Copy)]
+pub(crate) struct Positive<'a> {
+    pub q: usize,
+    pub p: &'a Derived,
+    ghost quantity: { q < 16 },
+    ghost positive: { pos 0 <ℤ coef_at q p.now },
+}
+
+impl Positive<'_> {
+    // The row without q that follows from this one and m, which is negative there.
+    pub(crate) fn combined(self, m: &Derived) -> Result<Derived, PastLimit>
+        ensures { result_ok result ≡ combine self.entry.q self.entry.p.now m.now }
+    {
+        let p = self.p;
+        let blend = Blend {
+            a: m.coefs[self.q].unsigned_abs(),
+            b: p.coefs[self.q].unsigned_abs(),
+        };
+        let coefs = array::from_fn(|j| blend.coef(p.coefs[j], m.coefs[j]));
+        let bound = blend.coef(p.bound, m.bound);
+        let times = array::from_fn(|i| blend.count(p.times[i], m.times[i]));
+        reduce(Divisor::of(&times), &coefs, bound, &times)
+    }
 }

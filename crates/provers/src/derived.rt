@@ -1,11 +1,27 @@
-// One for each fact, of which there are at most 24, and one for the negated goal.
-pub const MULTIPLIERS: usize = 25;
+ghost use Rattle.std.specs.Prelude.{◌≡◌};
+ghost use Rattle.provers.specs.Derivations.{original};
+
+use rows::Row;
+use std::array;
 
 // A row of kind at most that was derived from the facts and the negated goal: the multipliers say how.
-#[derive(Clone, Copy)]
+#[derive(Clone, Copy, Debug, PartialEq, Eq, Default)]
 pub struct Derived {
     pub coefs: [i32; 16],
     pub bound: i32,
-    // Those of the facts in order, then that of the negated goal; the rest are 0.
+    // One for each fact in order, of which there are at most 24, then one for the negated goal; the rest are 0.
     pub times: [u32; 25],
+}
+
+impl Derived {
+    // The row itself, as the i-th of the facts and the negated goal.
+    pub(crate) fn original(i: usize, row: &Row) -> Derived
+        ensures { result ≡ original i row.now }
+    {
+        Derived {
+            coefs: row.coefs(),
+            bound: row.bound(),
+            times: array::from_fn(|k| if k == i { 1 } else { 0 }),
+        }
+    }
 }

@@ -1,111 +1,111 @@
-ghost use Rattle.std.specs.Prelude.{◌≡◌, ◌<◌, pos, ◌<ℤ◌};
+ghost use Rattle.std.specs.Prelude.{◌≡◌, ◌<◌, List, Option};
 ghost use Rattle.std.specs.List.{flat_map};
-ghost use Rattle.provers.specs.Derivations.{coef_at};
+ghost use Rattle.provers.specs.declared.derived.Derived.{Derived};
 ghost use Rattle.provers.specs.Elimination.{push_all, zero_of, pair_of, pairs_of, without, without_all, from, first_below};
-ghost use Rattle.provers.specs.WorkLists.{entries, answered};
+ghost use Rattle.provers.specs.WorkLists.{answered};
 
-use crate::combine::combined;
+use crate::combine::Positive;
 use crate::derived::Derived;
-use crate::worklist::WorkList;
+use crate::worklist::{PastLimit, WorkList, push};
 
-// The row, if q does not occur in it.
-fn keep_zero(q: usize, row: &Derived, into: &mut WorkList) -> Option<()>
-    requires { q < 16 }
-    ensures { answered result (entries into.new) ≡ push_all (entries into.old) (zero_of q row.now) }
-{
-    if row.coefs[q] == 0 {
-        into.push(*row)
-    } else {
-        Some(())
-    }
+// A step that is done with each row: what it puts on the list that is made.
+trait Step: Copy {
+    ghost gives: { Self → Derived → List (Option Derived) };
+
+    fn step(self, row: &Derived, into: &mut WorkList) -> Result<(), PastLimit>
+        ensures { answered result into.new.items ≡ push_all into.old.items (gives self row.now) };
 }
 
-fn keep_zeros(q: usize, rows: &[Derived], into: &mut WorkList) -> Option<()>
-    requires { q < 16 }
-    ensures { answered result (entries into.new) ≡ push_all (entries into.old) (flat_map (zero_of q) rows.now) }
+fn with_each<S: Step>(step: S, rows: &[Derived], into: &mut WorkList) -> Result<(), PastLimit>
+    ensures { answered result into.new.items ≡ push_all into.old.items (flat_map (S.Step.gives step) rows.now) }
 {
     for row in rows {
-        keep_zero(q, row, into)?;
+        step.step(row, into)?;
     }
-    Some(())
+    Ok(())
 }
 
-// The positive row p with m, if that is negative.
-fn pair(q: usize, p: &Derived, m: &Derived, into: &mut WorkList) -> Option<()>
-    requires quantity { q < 16 }
-    requires positive { pos 0 <ℤ coef_at q p.now }
-    ensures { answered result (entries into.new) ≡ push_all (entries into.old) (pair_of q p.now m.now) }
-{
-    if m.coefs[q] < 0 {
-        let row = combined(q, p, m)?;
-        into.push(row)
-    } else {
-        Some(())
-    }
+// The row, if q does not occur in it.
+#[derive(Clone, Copy)]
+struct Zeros {
+    q: usize,
+    ghost quantity: { q < 16 },
 }
 
-fn pair_with_all(q: usize, p: &Derived, rows: &[Derived], into: &mut WorkList) -> Option<()>
-    requires quantity { q < 16 }
-    requires positive { pos 0 <ℤ coef_at q p.now }
-    ensures { answered result (entries into.new) ≡ push_all (entries into.old) (flat_map (pair_of q p.now) rows.now) }
-{
-    for m in rows {
-        pair(q, p, m, into)?;
-    }
-    Some(())
-}
+impl Step for Zeros {
+    ghost gives = { λ s. zero_of s.q };
 
-// The row p with each negative one, if p is positive.
-fn pairs_of(q: usize, p: &Derived, rows: &[Derived], into: &mut WorkList) -> Option<()>
-    requires { q < 16 }
-    ensures { answered result (entries into.new) ≡ push_all (entries into.old) (pairs_of q rows.now p.now) }
-{
-    if p.coefs[q] > 0 {
-        pair_with_all(q, p, rows, into)
-    } else {
-        Some(())
+    #[tactic(auto, unfolding(crate::specs::Elimination::push_all))]
+    fn step(self, row: &Derived, into: &mut WorkList) -> Result<(), PastLimit> {
+        if row.coefs[self.q] == 0 {
+            push(into, *row)
+        } else {
+            Ok(())
+        }
     }
 }
 
-fn all_pairs(q: usize, rows: &[Derived], into: &mut WorkList) -> Option<()>
-    requires { q < 16 }
-    ensures { answered result (entries into.new) ≡ push_all (entries into.old) (flat_map (pairs_of q rows.now) rows.now) }
-{
-    for p in rows {
-        pairs_of(q, p, rows, into)?;
+// The positive row with this one, if that is negative.
+impl Step for Positive<'_> {
+    ghost gives = { λ s. pair_of s.q s.p.now };
+
+    #[tactic(auto, unfolding(crate::specs::Elimination::push_all))]
+    fn step(self, row: &Derived, into: &mut WorkList) -> Result<(), PastLimit> {
+        if row.coefs[self.q] < 0 {
+            let made = self.combined(row)?;
+            push(into, made)
+        } else {
+            Ok(())
+        }
     }
-    Some(())
+}
+
+// The row with each negative one, if it is positive.
+#[derive(Clone, Copy)]
+struct Pairs<'a> {
+    q: usize,
+    rows: &'a [Derived],
+    ghost quantity: { q < 16 },
+}
+
+impl Step for Pairs<'_> {
+    ghost gives = { λ s. pairs_of s.q s.rows.now };
+
+    #[tactic(auto, unfolding(crate::specs::Elimination::push_all))]
+    fn step(self, row: &Derived, into: &mut WorkList) -> Result<(), PastLimit> {
+        if row.coefs[self.q] > 0 {
+            with_each(Positive { q: self.q, p: row }, self.rows, into)
+        } else {
+            Ok(())
+        }
+    }
 }
 
 // Makes the list without q from the rows.
-fn eliminate(q: usize, rows: &[Derived], into: &mut WorkList) -> Option<()>
+fn eliminate(q: usize, rows: &[Derived], into: &mut WorkList) -> Result<(), PastLimit>
     requires { q < 16 }
-    ensures { answered result (entries into.new) ≡ without q rows.now }
+    ensures { answered result into.new.items ≡ without q rows.now }
 {
     into.clear();
-    keep_zeros(q, rows, into)?;
-    all_pairs(q, rows, into)
+    with_each(Zeros { q }, rows, into)?;
+    with_each(Pairs { q, rows }, rows, into)
 }
 
 // Two quantities a turn, so that the rows go to the spare list and back and no list is copied.
-pub(crate) fn eliminate_all(rows: &mut WorkList, spare: &mut WorkList) -> Option<()>
-    ensures { answered result (entries rows.new) ≡ without_all (from 0) (entries rows.old) }
+pub(crate) fn eliminate_all(rows: &mut WorkList, spare: &mut WorkList) -> Result<(), PastLimit>
+    ensures { answered result rows.new.items ≡ without_all (from 0) rows.old.items }
 {
     for turn in 0..8 {
-        eliminate(2 * turn, rows.rows(), spare)?;
-        eliminate(2 * turn + 1, spare.rows(), rows)?;
+        eliminate(2 * turn, rows.as_slice(), spare)?;
+        eliminate(2 * turn + 1, spare.as_slice(), rows)?;
     }
-    Some(())
+    Ok(())
 }
 
 // The multipliers of the first row with a bound below 0.
 pub(crate) fn first_below(rows: &[Derived]) -> Option<[u32; 25]>
     ensures { result ≡ first_below rows.now }
 {
-    for row in rows {
-        if row.bound < 0 {
-            return Some(row.times);
-        }
-    }
-    None
+    let row = rows.iter().find(|row| row.bound < 0)?;
+    Some(row.times)
 }

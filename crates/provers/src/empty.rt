@@ -6,7 +6,7 @@ use crate::prover::Prover;
 use rows::Question;
 
 // Proposes no numbers, for domains that need none.
-#[derive(Clone, Copy)]
+#[derive(Clone, Copy, Debug, PartialEq, Eq)]
 pub struct Empty;
 
 impl Prover for Empty {
@@ -15,10 +15,6 @@ impl Prover for Empty {
     ghost short = { Prim.search rules };
 
     fn ask(&self, question: Question<'_>, _buffer: &mut [u32]) -> Option<usize> {
-        if question.well_shaped() {
-            Some(0)
-        } else {
-            None
-        }
+        question.well_shaped().then_some(0)
     }
 }

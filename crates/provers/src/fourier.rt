@@ -12,18 +12,17 @@ use rows::Question;
 
 // Multipliers under which the facts and the negated goal add to 0 < 0, found by elimination.
 fn refutation(question: Question<'_>) -> Option<[u32; 25]>
-    requires { length question.facts.now ≤ 24 }
     ensures { result ≡ refutation question.entry.facts.now question.entry.goal.now }
 {
     let mut rows = WorkList::new();
-    begin(question, &mut rows)?;
+    begin(question, &mut rows).ok()?;
     let mut spare = WorkList::new();
-    eliminate_all(&mut rows, &mut spare)?;
-    first_below(rows.rows())
+    eliminate_all(&mut rows, &mut spare).ok()?;
+    first_below(rows.as_slice())
 }
 
 // Proposes certificates for the linear domain.
-#[derive(Clone, Copy)]
+#[derive(Clone, Copy, Debug, PartialEq, Eq)]
 pub struct FourierMotzkin;
 
 impl Prover for FourierMotzkin {

@@ -1,56 +1,80 @@
-ghost use Rattle.std.specs.Prelude.{◌≡◌, ◌+◌, ◌*◌, ◌/◌, ◌<◌, ◌≤◌};
+ghost use Rattle.std.specs.Prelude.{◌≡◌, ◌+◌, ◌*◌, ◌/◌, ◌<◌, ◌≤◌, nat_le};
+ghost use Rattle.std.specs.Result.{result_ok};
+ghost use Rattle.ints.specs.Divisors.{divisor_of};
 ghost use Rattle.rows.specs.Limits.{small};
 ghost use Rattle.provers.specs.Derivations.{blend, quotient, kept, modest};
 
-use ints::times;
+use crate::worklist::PastLimit;
+use ints::{divisor, times};
 use rows::ROW_LIMIT;
 
 // No multiplier of a derived row is larger.
-pub const MOST_TIMES: u64 = 1_000_000;
+pub const MOST_TIMES: u32 = 1_000_000;
 
 // No coefficient or bound of a derived row lies further from 0.
-pub const MOST_SIZE: u64 = ROW_LIMIT as u64;
+pub const MOST_SIZE: u32 = ROW_LIMIT as u32;
 
-// a times x plus b times y: the sum always fits.
-pub(crate) fn blend(a: u32, x: i32, b: u32, y: i32) -> i64
-    requires { (a ≤ 2147483648) × (b < 2147483648) }
-    ensures { result ≡ blend a b x y }
-{
-    times(a, x) + times(b, y)
+// How two rows are added: a times the one plus b times the other. A sum always fits.
+#[derive(Clone, Copy)]
+pub(crate) struct Blend {
+    pub a: u32,
+    pub b: u32,
+    ghost sizes: { (a ≤ 2147483648) × (b < 2147483648) },
 }
 
-// The same of two multipliers.
-pub(crate) fn blend_count(a: u32, x: u32, b: u32, y: u32) -> u64
-    requires { (a ≤ 2147483648) × (b < 2147483648) }
-    ensures { result ≡ a * x + b * y }
-{
-    u64::from(a) * u64::from(x) + u64::from(b) * u64::from(y)
-}
-
-// z divided by g, where that keeps a row's limits.
-pub(crate) fn divide(g: u64, z: i64) -> Option<i32>
-    requires { 0 < g }
-    ensures { result ≡ kept small (quotient g z) }
-{
-    let size = z.unsigned_abs() / g;
-    if size > MOST_SIZE {
-        return None;
+impl Blend {
+    pub(crate) fn coef(self, x: i32, y: i32) -> i64
+        ensures { result ≡ blend self.a self.b x y }
+    {
+        times(self.a, x) + times(self.b, y)
     }
-    if z < 0 {
-        Some(-(size as i32))
-    } else {
-        Some(size as i32)
+
+    // The same of two multipliers. One function over both types would be no plainer: what bounds the sum would be asked of each call.
+    pub(crate) fn count(self, x: u32, y: u32) -> u64
+        ensures { result ≡ self.a * x + self.b * y }
+    {
+        u64::from(self.a) * u64::from(x) + u64::from(self.b) * u64::from(y)
     }
 }
 
-// A multiplier divided by g, where that keeps the limit.
-pub(crate) fn divide_count(g: u64, n: u64) -> Option<u32>
-    requires { 0 < g }
-    ensures { result ≡ kept modest (n / g) }
-{
-    let size = n / g;
-    if size > MOST_TIMES {
-        return None;
+// What a row is divided by.
+#[derive(Clone, Copy)]
+pub(crate) struct Divisor {
+    g: u64,
+    ghost above: { 0 < g },
+}
+
+impl Divisor {
+    // The greatest number that divides them all, and 1 where they are all 0.
+    pub(crate) fn of(times: &[u64]) -> Divisor
+        ensures { result.g ≡ divisor_of times.now }
+    {
+        Divisor { g: divisor(times) }
     }
-    Some(size as u32)
+
+    // The size divided, where that is at most the limit.
+    fn size(self, n: u64, most: u32) -> Result<u32, PastLimit>
+        ensures { result_ok result ≡ kept (λ size. nat_le size most) (n / self.g) }
+    {
+        let size = n / self.g;
+        if size > u64::from(most) {
+            return Err(PastLimit);
+        }
+        Ok(size as u32)
+    }
+
+    // z divided, where that keeps a row's limits.
+    pub(crate) fn coef(self, z: i64) -> Result<i32, PastLimit>
+        ensures { result_ok result ≡ kept small (quotient self.g z) }
+    {
+        let size = self.size(z.unsigned_abs(), MOST_SIZE)? as i32;
+        Ok(if z < 0 { -size } else { size })
+    }
+
+    // A multiplier divided, where that keeps the limit.
+    pub(crate) fn count(self, n: u64) -> Result<u32, PastLimit>
+        ensures { result_ok result ≡ kept modest (n / self.g) }
+    {
+        self.size(n, MOST_TIMES)
+    }
 }

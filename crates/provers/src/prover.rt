@@ -12,7 +12,7 @@ pub trait Prover {
     ghost proposal: { Self → List Row → Row → Option (List ℕ) };
 
     // How many numbers it wrote at the buffer's front, or none where it proposes none or more than the buffer holds; what is not written stays as it was.
-    // Asking changes no proposal.
+    // Asking changes no proposal. The buffer is lent, so that asking allocates nothing.
     fn ask(&self, question: Question<'_>, buffer: &mut [u32]) -> Option<usize>
         ensures count { result ≡ answer (proposal self.now question.entry.facts.now question.entry.goal.now) buffer.old }
         ensures after { buffer.new ≡ filled (proposal self.now question.entry.facts.now question.entry.goal.now) buffer.old }

@@ -7,7 +7,7 @@ use domains::{Domain, Fault, Raise, Reason};
 use rows::Question;
 
 // A layer: its certificate begins with how many of the facts the domain below is to see.
-#[derive(Clone, Copy)]
+#[derive(Clone, Copy, Debug, PartialEq, Eq)]
 pub struct First<D> {
     inner: D,
 }
@@ -51,10 +51,9 @@ impl<D: Domain> Domain for First<D> {
             return Err(Fault::new(Reason::Number));
         }
         let fewer = Question {
-            facts: &question.facts[0..n],
-            goal: question.goal,
+            facts: &question.facts[..n],
+            ..question
         };
-        self.inner.verify(fewer, rest).raise()?;
-        Ok(())
+        self.inner.verify(fewer, rest).raise()
     }
 }

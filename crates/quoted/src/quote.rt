@@ -16,9 +16,9 @@ fn is_looser(fact: &Row, goal: &Row) -> bool
 fn quote(fact: &Row, goal: &Row) -> Result<(), Fault>
     ensures { result ≡ quote_of fact.now goal.now }
 {
-    let Kind::AtMost = fact.kind() else {
+    if fact.kind() != Kind::AtMost {
         return Err(Fault::new(Reason::Kind));
-    };
+    }
     if !is_looser(fact, goal) {
         return Err(Fault::new(Reason::Sum));
     }
@@ -26,7 +26,7 @@ fn quote(fact: &Row, goal: &Row) -> Result<(), Fault>
 }
 
 // A certificate is one number, the position of a fact that the goal only loosens.
-#[derive(Clone, Copy)]
+#[derive(Clone, Copy, Debug, PartialEq, Eq)]
 pub struct Quoted;
 
 impl Domain for Quoted {
@@ -55,10 +55,10 @@ impl Domain for Quoted {
         if !question.well_shaped() {
             return Err(Fault::new(Reason::Shape));
         }
-        let k = *k as usize;
-        if k >= question.facts.len() {
-            return Err(Fault::new(Reason::Number));
-        }
-        quote(&question.facts[k], question.goal)
+        let fact = question
+            .facts
+            .get(*k as usize)
+            .ok_or(Fault::new(Reason::Number))?;
+        quote(fact, question.goal)
     }
 }

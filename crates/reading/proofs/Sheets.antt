@@ -20,7 +20,7 @@ use Rattle.records.specs.Columns.{Columns, fresh, no_entry, tables_by, tables_in
 use Rattle.records.specs.Laying.{columns_of}
 use Rattle.records.specs.Rules.{RulesStand}
 use Rattle.records.proofs.Rules.{rules-length, reads-rules}
-use Rattle.records.proofs.Slots.{length-slots}
+use Rattle.records.specs.Slots.{length-slots}
 use Rattle.records.proofs.Layings.{stand_in}
 use Rattle.reading.specs.Answers.{Stand}
 use Rattle.resolving.specs.Ruling.{RulesMade, Ample}
@@ -60,7 +60,7 @@ ample w records lender p e h k = subst (Ample w) (sym e) (record { nodes = omega
 pub stands : (t : Laid) (n : ℕ) (rules : List Rule) → RulesStand (tables_by (columns_of t)) (columns_of t).params.entries 0 (columns_of t).entries.entries rules → n ≡ length (columns_of t).entries.entries → Stand t.records.now n rules
 stands t n rules s e =
     let r = t.records.now in
-    let k : n ≡ t.entries = e ∙ length-slots (λ r. r.entries) no_entry r t.entries in
+    let k : n ≡ t.counts.entries = e ∙ length-slots (λ r. r.entries) no_entry r t.counts.entries in
     let a : RulesStand (tables_in r) (params_in r) 0 (entries_in r n) rules = subst (λ m. RulesStand (tables_in r) (params_in r) 0 (entries_in r m) rules) (sym k) (stand_in t 0 rules s) in record {
       count = e ∙ rules-length (tables_by (columns_of t)) (columns_of t).params.entries 0 (columns_of t).entries.entries rules s;
       stand = a;

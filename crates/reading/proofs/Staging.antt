@@ -1,5 +1,6 @@
 -- From stage to stage: the tokens that were cut, and the sheet that was parsed.
-use Rattle.std.proofs.Common.{◌≡◌, ℕ, ◌-◌, ◌≤◌, ⊎_elim, true, List, [], length, get_or, take, drop, ℤ, Some, None, Ok, Err, Option, Result, sym, refl, ap, ◌∙◌, subst, ap₂, inl, inr, arith, leb-true}
+use Rattle.std.proofs.Common.{◌≡◌, ℕ, ◌-◌, ◌≤◌, ⊎_elim, true, List, [], length, get_or, take, drop, ℤ, Some, None, Ok, Err, Option, Result, MatchResult, sym, refl, ap, ◌∙◌, subst, ap₂, inl, inr, arith, leb-true}
+use Rattle.std.specs.Prelude.{IsErrAnd}
 use Rattle.std.proofs.lemmas.List.{take_all, take_at, take-append-drop, length-take-le, get_or_past}
 use Rattle.std.proofs.ByRecursion.{All-get_or}
 use Rattle.std.proofs.lemmas.Bool.{cases_lt, and_parts}
@@ -89,3 +90,13 @@ checked-answers (Ok n) text low high count sheet records i l c o k = record {
 checked-answers (Err r) text low high count sheet records i l c o (place, k) =
     let P : Refusal → Type 0 = λ r. Reading.Reads text low high count (Err r) in
     ⊎_elim (λ (e, n). subst P (sym e) (Reading.misnamed i c o n)) (λ (e, n, f). subst P (sym e) (Reading.too_many i c o n f)) k
+
+-- an error that is turned into another
+module _ {E D : Type 0} (P : E → D → Type 0) where
+  pub ok_kept : (r : Result ℕ E) (s : Result ℕ D) (n : ℕ) → MatchResult r (λ x. s ≡ Ok x) (λ e. IsErrAnd s (P e)) → s ≡ Ok n → r ≡ Ok n
+  ok_kept (Ok x) s n m e = ap Ok (let z : x ≡ n = cc in z)
+  ok_kept (Err x) s n m e = let z : IsErrAnd {T = ℕ} (Ok n) (P x) = subst (λ q. IsErrAnd q (P x)) e m in absurd z
+
+  pub err_kept : (r : Result ℕ E) (s : Result ℕ D) (d : D) → MatchResult r (λ x. s ≡ Ok x) (λ e. IsErrAnd s (P e)) → s ≡ Err d → (e : E) × (r ≡ Err e) × P e d
+  err_kept (Ok x) s d m e = let z : ◌≡◌ {A = ℕ} 0 1 = cc in let no : ⊥ = omega arith in absurd no
+  err_kept (Err x) s d m e = (x, refl, subst (λ q. IsErrAnd q (P x)) e m)

@@ -7,11 +7,11 @@ ghost use Rattle.resolving.specs.Making.{Small};
 ghost use Rattle.reading.specs.Answers.{Answer, Staged, Checked};
 
 use counting::count_fault;
-use grammar::{Node as Raw, Unread, parse};
+use grammar::{Node as Raw, Tokens, Unread, parse};
 use language::Refusal;
 use letters::{Misspelt, Token, cut};
 use naming::{Written, name_fault};
-use records::{Laid, Record, clear};
+use records::{Entry, Laid, Record, clear};
 use resolving::resolve;
 
 // So many records hold every sheet that is read.
@@ -23,7 +23,7 @@ fn in_range(low: i32, high: i32, records: usize) -> bool
     low <= 0 && high >= 0 && records >= LEAST_RECORDS
 }
 
-// The refusal of a text that is not cut into tokens.
+// The refusal of a text that is not cut into tokens. Both types are of other crates, so there is no From.
 fn misspelling(why: Misspelt) -> Refusal
     ensures { result ≡ misspelling why }
 {
@@ -65,7 +65,7 @@ fn names_then_counts(
     resolve(sheet, &mut tables);
     match count_fault(sheet, &tables) {
         Some(place) => Err(Refusal::Full { place }),
-        None => Ok(tables.entries()),
+        None => Ok(tables.count::<Entry>()),
     }
 }
 
@@ -77,16 +77,14 @@ fn stages(text: &[u8], low: i32, high: i32, records: &mut [Record]) -> Result<us
         return Err(Refusal::Range);
     }
     let mut tokens = [Token::end(0); 16384];
-    let count = match cut(text, &mut tokens) {
-        Ok(count) => count,
-        Err(why) => return Err(misspelling(why)),
+    let count = cut(text, &mut tokens).map_err(misspelling)?;
+    let source = Tokens {
+        tokens: &tokens[0..count],
+        end: text.len(),
     };
     let mut raw = [Raw::Blank; 16384];
-    let made = match parse(&tokens[0..count], text.len(), &mut raw) {
-        Ok(made) => made,
-        Err(why) => return Err(misreading(why)),
-    };
-    names_then_counts(text, &tokens[0..count], &raw[0..made], records)
+    let made = parse(source, &mut raw).map_err(misreading)?;
+    names_then_counts(text, source.tokens, &raw[0..made], records)
 }
 
 // Reads a text in a range into records: the rules that it stands for stand there then, and how many there are is given; or the first stage at fault refuses, and every record is zero.

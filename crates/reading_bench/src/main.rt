@@ -12,20 +12,14 @@ use std::time::Instant;
 const TURNS: u32 = 50;
 
 fn measure(rt: &HostRuntime, name: &str, text: &[u8], records: &mut [Record]) -> io::Result<()> {
-    let mut rules = 0;
-    let mut refused = 0;
+    let mut last = Ok(0);
     let start = Instant::now(rt)?;
     for _ in 0..TURNS {
-        match read(text, 0, 1000, records) {
-            Ok(count) => {
-                rules = count;
-            }
-            Err(refusal) => {
-                refused = refusal.number();
-            }
-        }
+        last = read(text, 0, 1000, records);
     }
     let nanos = start.elapsed(rt)?.as_nanos();
+    let rules = last.unwrap_or(0);
+    let refused = last.err().map_or(0, |refusal| refusal.number());
     let bytes = text.len();
     let each = nanos / u128::from(TURNS);
     let rate = (bytes as u128 * 1_000_000_000)

@@ -3,7 +3,7 @@ use Rattle.std.proofs.Common.{◌≡◌, ◌≢◌, ℕ, suc, ◌+◌, ◌*◌, 
 use Rattle.rows.specs.declared.row.Row.{Row}
 use Rattle.language.specs.Walking.{Obligation}
 use Rattle.std.proofs.lemmas.Bool.{cases_eq}
-use Rattle.std.proofs.lemmas.List.{get_or-set_same, get_or-set_other}
+use Rattle.std.proofs.lemmas.List.{get_or_default, get_or-set_same, get_or-set_other}
 use Rattle.records.specs.declared.node.Node.TheVariants.{Blank}
 use Rattle.records.specs.declared.entry.Param.TheVariants.{Number}
 use Rattle.records.specs.declared.record.Record.{Record}
@@ -11,10 +11,10 @@ use Rattle.records.specs.declared.laid.Laid.{Laid}
 use Rattle.language.specs.declared.owed.Duty.{Duty}
 use Rattle.records.specs.Laying.{columns_of}
 use Rattle.records.specs.Owing.{owed_at, row_at, Owes, OwesFrom, OwesAll}
-use Rattle.records.specs.Added.{SameTables, RowPut, RowsPut, HeaderPut}
+use Rattle.records.specs.Added.{RowPut, RowsPut, HeaderPut}
 use Rattle.records.specs.Columns.{zero_record, first_slots, no_condition, no_item, no_entry}
-use Rattle.records.proofs.Slots.{within-any, slots_kept}
-use Rattle.records.proofs.Layings.{laid, same_columns}
+use Rattle.records.specs.Slots.{slots_kept}
+use Rattle.records.specs.Kept.{laid, same_columns}
 
 -- the same tables
 pub record Kept (old new : Record) : Type 0 where
@@ -34,7 +34,7 @@ module _ (r : List Record) (at : ℕ) (new d : Record) (within : at < length r) 
   -- what the new record has as the old one had it
   pub unchanged : {B : Type 0} (f : Record → B) → f new ≡ f (get_or r at d) → (j : ℕ) → f (get_or (set r at new) j zero_record) ≡ f (get_or r j zero_record)
   unchanged f e j =
-      ⊎_elim (λ q. ap (λ i. f (get_or (set r at new) i zero_record)) q ∙ written f ∙ e ∙ ap f (within-any r at d zero_record within) ∙ ap (λ i. f (get_or r i zero_record)) (sym q))
+      ⊎_elim (λ q. ap (λ i. f (get_or (set r at new) i zero_record)) q ∙ written f ∙ e ∙ ap f (get_or_default r at d zero_record within) ∙ ap (λ i. f (get_or r i zero_record)) (sym q))
       (λ ne. unwritten f j ne) (cases_eq j at)
 
   pub columns-kept : (n c i p e lender : ℕ) → Kept (get_or r at d) new →
@@ -43,12 +43,6 @@ module _ (r : List Record) (at : ℕ) (new d : Record) (within : at < length r) 
   columns-kept n c i p e lender k =
       same_columns r at lender new (slots_kept (λ r. r.nodes) Blank r new d at n within k.nodes) (slots_kept (λ r. r.conditions) no_condition r new d at c within k.conditions)
       (slots_kept (λ r. r.items) no_item r new d at i within k.items) (slots_kept (λ r. r.params) Number r new d at p within k.params) (slots_kept (λ r. r.entries) no_entry r new d at e within k.entries)
-
-pub same_tables : {t : Laid} → SameTables t t
-same_tables = record { columns = refl; length = refl; owed = refl }
-
-pub tables_then : {t u v : Laid} → SameTables t u → SameTables u v → SameTables t v
-tables_then a b = record { columns = b.columns ∙ a.columns; length = b.length ∙ a.length; owed = b.owed ∙ a.owed }
 
 -- obligations stay where their rows and headers do
 pub owes_kept : (r s : List Record) (k : ℕ) (os : List Obligation) → ((i : ℕ) → i < k + length os → owed_at s i ≡ owed_at r i) → ((i : ℕ) → i < 25 * (k + length os) → row_at s i ≡ row_at r i) → OwesFrom r k os → OwesFrom s k os

@@ -1,6 +1,7 @@
 -- What stands still stands when tables grow, and is what the tables are read as.
 use Rattle.std.proofs.Common.{◌≡◌, ℕ, zero, suc, ◌<◌, ◌≤◌, cond, List, [], ◌∷◌, ◌++◌, map, length, Some, None, sym, refl, ap, ◌∙◌, subst, ap₂, arith, lt-ltb}
 use Rattle.std.specs.List.{AllByRecursion, slice_get}
+use Rattle.std.proofs.lemmas.List.{append-nil, append_assoc}
 use Rattle.std.proofs.ByRecursion.{All-weaker}
 use Rattle.language.specs.Tree as Tree
 use Rattle.language.specs.Tree.{Expr, Args}
@@ -22,22 +23,14 @@ pub nth_end : {X : Type 0} (xs : List X) (x : X) → slice_get (xs ++ x ∷ []) 
 nth_end [] x = refl
 nth_end (y ∷ xs) x = nth_end xs x
 
-append-append : {X : Type 0} (xs ys zs : List X) → (xs ++ ys) ++ zs ≡ xs ++ (ys ++ zs)
-append-append [] ys zs = refl
-append-append (x ∷ xs) ys zs = ap (λ l. x ∷ l) (append-append xs ys zs)
-
-append-none : {X : Type 0} (xs : List X) → xs ≡ xs ++ []
-append-none [] = refl
-append-none (x ∷ xs) = ap (λ l. x ∷ l) (append-none xs)
-
 abbrev pub More : {X : Type 0} → List X → List X → Type 0
 More {X} xs ys = (more : List X) × (ys ≡ xs ++ more)
 
 pub more-more : {X : Type 0} (xs ys zs : List X) → More xs ys → More ys zs → More xs zs
-more-more xs ys zs a b = (a.0 ++ b.0, b.1 ∙ ap (λ l. l ++ b.0) a.1 ∙ append-append xs a.0 b.0)
+more-more xs ys zs a b = (a.0 ++ b.0, b.1 ∙ ap (λ l. l ++ b.0) a.1 ∙ append_assoc xs a.0 b.0)
 
 pub same_tables : (t : Tables) → Grows t t
-same_tables t = record { nodes = ([], append-none t.nodes); conditions = ([], append-none t.conditions); items = ([], append-none t.items) }
+same_tables t = record { nodes = ([], sym (append-nil t.nodes)); conditions = ([], sym (append-nil t.conditions)); items = ([], sym (append-nil t.items)) }
 
 pub then_grows : (s t u : Tables) → Grows s t → Grows t u → Grows s u
 then_grows s t u a b = record {

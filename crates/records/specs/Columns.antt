@@ -9,11 +9,11 @@ use Rattle.records.specs.declared.entry.Stretch.{Stretch}
 use Rattle.records.specs.declared.entry.Param.{Param}
 use Rattle.records.specs.declared.entry.Param.TheVariants.{Number}
 use Rattle.records.specs.declared.entry.Entry.{Entry}
-use Rattle.records.specs.declared.four.Four.{Four}
+use Rattle.records.specs.declared.counts.Counts.{Counts}
 use Rattle.records.specs.declared.record.Record.{Record}
 use Rattle.language.specs.declared.sign.Comparison.TheVariants.{Less}
 use Rattle.records.specs.Tables.{Tables}
-use Rattle.records.specs.Fours.{slots, four}
+use Rattle.records.specs.Fours.{four}
 
 -- what a slot holds in which nothing lies
 abbrev pub no_item : Item
@@ -41,11 +41,11 @@ zero_record = record {
 }
 
 -- the slot with this number of a column, four to a record
-unfoldable pub slot_at : {A : Type 0} → (Record → Four A) → A → List Record → ℕ → A
-slot_at part none records k = slice_index_or (slots (part (slice_index_or records (k / 4) zero_record))) (k % 4) none
+unfoldable pub slot_at : {A : Type 0} → (Record → List A) → A → List Record → ℕ → A
+slot_at part none records k = slice_index_or (part (slice_index_or records (k / 4) zero_record)) (k % 4) none
 
 -- the first slots of a column
-unfoldable pub first_slots : {A : Type 0} → (Record → Four A) → A → List Record → ℕ → List A
+unfoldable pub first_slots : {A : Type 0} → (Record → List A) → A → List Record → ℕ → List A
 first_slots part none records zero = []
 first_slots part none records (suc n) = first_slots part none records n ++ slot_at part none records n ∷ []
 
@@ -63,8 +63,19 @@ pub record Columns : Type 0 where
   pub entries : Column Entry
   pub lender : ℕ
 
-abbrev pub column : {A : Type 0} → (Record → Four A) → A → List Record → ℕ → Column A
+abbrev pub column : {A : Type 0} → (Record → List A) → A → List Record → ℕ → Column A
 column part none records n = record { entries = first_slots part none records n; room = 4 * length records }
+
+-- the columns of tables with so many entries each
+abbrev pub columns_by : List Record → Counts → ℕ → Columns
+columns_by records k lender = record {
+  nodes = column (λ r. r.nodes) Blank records k.nodes;
+  conditions = column (λ r. r.conditions) no_condition records k.conditions;
+  items = column (λ r. r.items) no_item records k.items;
+  params = column (λ r. r.params) Number records k.params;
+  entries = column (λ r. r.entries) no_entry records k.entries;
+  lender = lender;
+}
 
 -- columns with nothing in them
 abbrev pub fresh : ℕ → ℕ → Columns

@@ -5,6 +5,9 @@ pub mod Counting
 pub mod Rules
 pub mod Fours
 pub mod Columns
+pub mod Tabling
+pub mod Slots
+pub mod Kept
 pub mod Laying
 pub mod Owing
 pub mod Added

@@ -2,17 +2,20 @@
 #![tactic(auto)]
 
 pub mod condition;
+pub mod counts;
 pub mod entry;
-pub mod four;
 pub mod laid;
 pub mod node;
 pub mod owed;
 pub mod record;
+pub mod tabled;
 
 pub use condition::{Atom, Condition, Item};
+pub use counts::Counts;
 pub use entry::{Entry, Param, Stretch};
-pub use four::Four;
 pub use laid::Laid;
 pub use node::Node;
 pub use owed::Owed;
+pub use pile::Full;
 pub use record::{Record, clear};
+pub use tabled::Tabled;

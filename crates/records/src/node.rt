@@ -1,7 +1,7 @@
 use language::{Comparison, Operator};
 
-// A node of a sheet's tree, its names resolved. Parts are given by their positions, which are lower than the node's own.
-#[derive(Clone, Copy)]
+// A node of a sheet's tree, its names resolved. Parts are given by their positions, which are lower than the node's own: nodes lie in records that the caller lends, so no part is a Box.
+#[derive(Clone, Copy, Debug, PartialEq, Eq)]
 pub enum Node {
     Blank,
     Num {

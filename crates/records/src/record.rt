@@ -3,20 +3,19 @@ ghost use Rattle.records.specs.Columns.{zero_record};
 
 use crate::condition::{Atom, Condition, Item};
 use crate::entry::{Entry, Param, Stretch};
-use crate::four::Four;
 use crate::node::Node;
 use crate::owed::Owed;
 use language::Comparison;
 use rows::Row;
 
-// A part of each table of a sheet: four slots of each. The tables of every sheet that is read lie in 4,096 records. Beside them a record has room for an obligation, and for a row of some obligation's question.
+// A part of each table of a sheet: four slots of each, as memory is lent in records. The tables of every sheet that is read lie in 4,096 records. Beside them a record has room for an obligation, and for a row of some obligation's question.
 #[derive(Clone, Copy)]
 pub struct Record {
-    pub nodes: Four<Node>,
-    pub conditions: Four<Condition>,
-    pub items: Four<Item>,
-    pub params: Four<Param>,
-    pub entries: Four<Entry>,
+    pub nodes: [Node; 4],
+    pub conditions: [Condition; 4],
+    pub items: [Item; 4],
+    pub params: [Param; 4],
+    pub entries: [Entry; 4],
     pub owed: Option<Owed>,
     pub row: Option<Row>,
 }
@@ -28,26 +27,26 @@ impl Record {
     {
         let none = Stretch { from: 0, to: 0 };
         Record {
-            nodes: Four::of(Node::Blank),
-            conditions: Four::of(Condition {
+            nodes: [Node::Blank; 4],
+            conditions: [Condition {
                 place: 0,
                 comparison: Comparison::Less,
                 from: 0,
                 middle: 0,
                 to: 0,
-            }),
-            items: Four::of(Item {
+            }; 4],
+            items: [Item {
                 factor: 0,
                 atom: Atom::One,
-            }),
-            params: Four::of(Param::Number),
-            entries: Four::of(Entry {
+            }; 4],
+            params: [Param::Number; 4],
+            entries: [Entry {
                 place: 0,
                 params: none,
                 needs: none,
                 gives: none,
                 body: 0,
-            }),
+            }; 4],
             owed: None,
             row: None,
         }

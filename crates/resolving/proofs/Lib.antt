@@ -1,6 +1,4 @@
-pub mod Slots
 pub mod Adding
-pub mod Rests
 pub mod Listings
 pub mod Growing
 pub mod Resolved

@@ -1,5 +1,5 @@
 -- Conditions in their tables: one from its two sides, and one after another.
-use Rattle.std.proofs.Common.{◌≡◌, ℕ, suc, ◌+◌, ◌-◌, ◌≤◌, min, Bool, true, false, cond, List, [], ◌∷◌, ◌++◌, map, length, take, sym, refl, ap, ◌∙◌, subst, ap₂, inl, inr, arith}
+use Rattle.std.proofs.Common.{◌≡◌, ℕ, suc, ◌+◌, ◌-◌, ◌<◌, ◌≤◌, min, Bool, true, false, cond, List, [], ◌∷◌, ◌++◌, map, length, take, None, sym, refl, ap, ◌∙◌, subst, ap₂, inl, inr, arith}
 use Rattle.std.proofs.lemmas.List.{append-nil, append_assoc, length-append, drop_at, take_all, get_or_past}
 use Rattle.std.proofs.lemmas.Bool.{cases_lt}
 use Rattle.std.proofs.ByRecursion.{All-append}
@@ -10,7 +10,7 @@ use Rattle.letters.specs.Tokens.{token_of}
 use Rattle.grammar.specs.Parsers.{Look, look_in, is_a}
 use Rattle.grammar.specs.Raw as Raw
 use Rattle.grammar.specs.Sheets.{plain_item, times_item, condition_of}
-use Rattle.grammar.specs.Stretches.{past, item_at, side_at, condition_at, conditions_at}
+use Rattle.grammar.specs.Stretches.{Past, past, item_at, side_at, condition_at, conditions_at}
 use Rattle.naming.specs.Scopes.{Scope}
 use Rattle.naming.proofs.Joins.{rest-none}
 use Rattle.naming.proofs.Turns.{side-list, conditions-list, past-side}
@@ -23,7 +23,7 @@ use Rattle.records.proofs.Stretches.{stays}
 use Rattle.records.proofs.Standing.{more-more, conditions-stay, longer, sides-in}
 use Rattle.naming.specs.Resolving as Resolving
 use Rattle.naming.specs.Resolving.{side_place, item_place}
-use Rattle.resolving.specs.Making.{Added, Listing, Formed}
+use Rattle.resolving.specs.Making.{Small, Added, Listing, Formed}
 
 -- what was added is a stretch of the table
 pub stretched : {X : Type 0} (xs more : List X) → stretch (xs ++ more) (length xs) (length (xs ++ more)) ≡ more
@@ -46,6 +46,22 @@ item-place l m i = go (is_a Numeral (l i)) (is_a Times (l (suc i)))
     go true true = refl
     go true false = refl
     go false t = refl
+
+-- a factor, like any numeral, has six digits at most
+pub small_item : (l : Look) → ((q : ℕ) → Small (l q)) → (m : Bool) (i : ℕ) → Resolving.factor_of (item_at l m i).value.factor (item_at l m i).value.atom < 1000000
+small_item l fit m i = go (is_a Numeral (l i)) (is_a Times (l (suc i)))
+  where
+    plain : (t : Token) → Small t → Resolving.factor_of None t < 1000000
+    plain t s = by_kind (same_kind t.kind Numeral)
+      where
+        by_kind : (b : Bool) → cond b t.value 1 < 1000000
+        by_kind true = s.value
+        by_kind false = omega arith
+
+    go : (b t : Bool) → let p : Past Raw.Item = cond b (cond t (past (times_item m (l i) (l (suc (suc i)))) (suc (suc (suc i)))) (past (plain_item m (l i)) (suc i))) (past (plain_item m (l i)) (suc i)) in Resolving.factor_of p.value.factor p.value.atom < 1000000
+    go true true = (fit i).value
+    go true false = plain (l i) (fit i)
+    go false t = plain (l i) (fit i)
 
 pub side-place : (l : Look) (n i : ℕ) → side_place (side_at n l i).value ≡ (l i).place
 side-place l n i = ap side_place (side-list l n i) ∙ item-place l false i

@@ -4,6 +4,12 @@ use Rattle.std.proofs.lemmas.Bool.{cases_lt}
 use Rattle.std.proofs.lemmas.List.{length-map, length_push, map_push, append-nil}
 use Rattle.grammar.specs.Raw as Raw
 use Rattle.grammar.specs.Weights.{conditions_weight, rule_weight}
+use Rattle.grammar.specs.Stretches.{params_at}
+use Rattle.naming.specs.declared.head.Params.{Params}
+use Rattle.naming.specs.declared.written.Written.{Written}
+use Rattle.naming.specs.Reaches.{scope_of}
+use Rattle.naming.specs.Sources.{source_of}
+use Rattle.naming.specs.Stretching.{left}
 use Rattle.naming.specs.Scopes.{Scope, Sheet, empty, head_scope}
 use Rattle.language.specs.Tree as Tree
 use Rattle.letters.specs.declared.token.Token.{Token}
@@ -19,7 +25,7 @@ use Rattle.records.specs.Columns.{Column, Columns, pushed, tables_by}
 use Rattle.resolving.specs.Making.{Added, Listing, ConditionsAlone, ParamsAlone}
 use Rattle.resolving.specs.Growing.{Roomy, Made, ExprMade}
 use Rattle.grammar.specs.declared.node.Node.{Node}
-use Rattle.grammar.specs.Trees.{Source, raw_at, rules_to}
+use Rattle.grammar.specs.Trees.{Source, look_of, raw_at, rules_to}
 use Rattle.grammar.specs.Trees as Trees
 use Rattle.std.specs.List.{slice_get}
 use Rattle.std.proofs.lemmas.List.Sums.{sum_by-append, sum_by_push}
@@ -33,6 +39,10 @@ use Rattle.resolving.proofs.Adding.{size, taken}
 use Rattle.resolving.proofs.Growing.{nodes-longer, made_as, made_then, made-listed, listed-grows}
 use Rattle.resolving.proofs.Listings.{stretched}
 use Rattle.resolving.proofs.Parts.{listed-few}
+
+-- the names and lists that a head declares, where none were before
+pub declared : (w : Written) (h : Params) (at : ℕ) (ns ls : List ℕ) → h.sheet ≡ w → left h ≡ params_at (length w.tokens.now) (look_of (source_of w)) at → scope_of h.sheet ns ls ≡ head_scope empty (left h) → scope_of w ns ls ≡ head_scope empty (params_at (length w.tokens.now) (look_of (source_of w)) at)
+declared w h at ns ls v e s = ap (λ (x : Written). scope_of x ns ls) (sym v) ∙ s ∙ ap (head_scope empty) e
 
 -- conditions that were listed, in a scope that is the same
 pub conditions-made : (text : List ℕ) (Γ Δ : Scope) (cs : List Raw.Condition) (from to : ℕ) (p q : Columns) → Listing (conditions_of text Γ cs) p.conditions.entries q.conditions.entries p.items.entries q.items.entries → Γ ≡ Δ → from ≡ length p.conditions.entries → to ≡ length q.conditions.entries → length q.items.entries ≤ length p.items.entries + conditions_weight cs → ConditionsAlone p q

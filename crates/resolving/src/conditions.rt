@@ -1,6 +1,5 @@
 ghost use Rattle.std.specs.Prelude.{◌≡◌, ◌+◌, ◌<◌, ◌≤◌, max, false, [], map, length, pos};
 ghost use Rattle.letters.specs.Kinds.{same_kind};
-ghost use Rattle.grammar.specs.Sheets.{sum_sign};
 ghost use Rattle.grammar.specs.Stretches.{item_at, side_at, condition_at, conditions_at, optional_at};
 ghost use Rattle.grammar.specs.Trees.{look_of};
 ghost use Rattle.records.specs.Laying.{columns_of};
@@ -8,28 +7,15 @@ ghost use Rattle.naming.specs.Reaches.{scope_of};
 ghost use Rattle.naming.specs.Sources.{source_of};
 ghost use Rattle.records.specs.Tables as lists;
 ghost use Rattle.naming.specs.Resolving.{signed, factor_of, atom_of, item_of, condition_of, conditions_of};
-ghost use Rattle.resolving.specs.Making.{Fit, Added, Listing, Formed, ItemsAlone, ConditionsAlone};
+ghost use Rattle.resolving.specs.Making.{Added, Listing, Formed, ItemsAlone, ConditionsAlone};
 ghost use Rattle.grammar.specs.Weights.{condition_weight, conditions_weight};
 
-use crate::item::{ConditionAt, ItemAt};
+use crate::context::Scoped;
 use crate::lookups::slot;
 use crate::signs::comparison_of;
 use letters::{Kind, Token};
-use naming::Written;
+use naming::Past;
 use records::{Atom, Condition, Item, Laid, Stretch};
-
-// What an item takes so many times.
-fn atom_of(sheet: Written<'_>, names: &[usize], token: Token) -> Atom
-    ensures { lists.atom_of result ≡ atom_of sheet.entry.text.now (scope_of sheet.entry names.now []) token }
-{
-    if token.kind.is(Kind::Name) {
-        Atom::Named(slot(sheet, names, token))
-    } else if token.kind.is(Kind::TheResult) {
-        Atom::TheResult
-    } else {
-        Atom::One
-    }
-}
 
 // How often an item is taken, by the factor that is written or not.
 fn factor_of(minus: bool, factor: Option<Token>, token: Token) -> i32
@@ -38,165 +24,139 @@ fn factor_of(minus: bool, factor: Option<Token>, token: Token) -> i32
 {
     let times = match factor {
         Some(written) => written.value,
-        None => {
-            if token.kind.is(Kind::Numeral) {
-                token.value
-            } else {
-                1
-            }
-        }
+        None if token.is(Kind::Numeral) => token.value,
+        None => 1,
     };
     if minus { -(times as i32) } else { times as i32 }
 }
 
-// The item at a position.
-fn item_at(sheet: Written<'_>, names: &[usize], minus: bool, at: usize) -> ItemAt
-    requires fit { Fit sheet }
-    requires near { at ≤ 16390 }
-    ensures item { lists.item_of result.item ≡ item_of sheet.entry.text.now (scope_of sheet.entry names.now []) (item_at (look_of (source_of sheet.entry)) minus at).value }
-    ensures next { result.next ≡ (item_at (look_of (source_of sheet.entry)) minus at).next }
-    ensures near { result.next ≤ at + 3 }
-{
-    let first = sheet.token(at);
-    if first.kind.is(Kind::Numeral) && sheet.token(at + 1).kind.is(Kind::Times) {
-        let atom = sheet.token(at + 2);
-        ItemAt {
-            item: Item {
-                factor: factor_of(minus, Some(first), atom),
-                atom: atom_of(sheet, names, atom),
-            },
-            next: at + 3,
-        }
-    } else {
-        ItemAt {
-            item: Item {
-                factor: factor_of(minus, None, first),
-                atom: atom_of(sheet, names, first),
-            },
-            next: at + 1,
+impl Scoped<'_, '_> {
+    // What an item takes so many times.
+    #[tactic(auto, unfolding(letters::specs::Kinds::same_kind))]
+    fn atom_of(self, token: Token) -> Atom
+        ensures { lists.atom_of result ≡ atom_of self.entry.sheet.text.now (scope_of self.entry.sheet self.entry.names.now []) token }
+    {
+        match token.kind {
+            Kind::Name => Atom::Named(slot(self.sheet, self.names, token)),
+            Kind::TheResult => Atom::TheResult,
+            _ => Atom::One,
         }
     }
-}
 
-// A plus or a minus stands at a position.
-fn is_sign(sheet: Written<'_>, at: usize) -> bool
-    ensures { result ≡ sum_sign (look_of (source_of sheet.entry) at) }
-{
-    let kind = sheet.token(at).kind;
-    kind.is(Kind::Plus) || kind.is(Kind::Minus)
-}
-
-// The items of the side at a position go into their table; the position after it is given.
-fn side_at(sheet: Written<'_>, names: &[usize], at: usize, tables: &mut Laid<'_>) -> usize
-    requires fit { Fit sheet }
-    requires near { at ≤ 16390 }
-    requires room { length (columns_of tables.old).items.entries + length (side_at (length sheet.tokens.now) (look_of (source_of sheet)) at).value ≤ (columns_of tables.old).items.room }
-    ensures added { Added lists.item_of (map (item_of sheet.entry.text.now (scope_of sheet.entry names.now [])) (side_at (length sheet.entry.tokens.now) (look_of (source_of sheet.entry)) at).value) (columns_of tables.old).items.entries (columns_of tables.new).items.entries }
-    ensures others { ItemsAlone (columns_of tables.old) (columns_of tables.new) }
-    ensures next { result ≡ (side_at (length sheet.entry.tokens.now) (look_of (source_of sheet.entry)) at).next }
-    ensures near { result ≤ max at 16384 + 3 }
-{
-    let first = item_at(sheet, names, false, at);
-    tables.push_item(first.item);
-    let mut next = first.next;
-    let mut rest = sheet.tokens.len();
-    while rest > 0 && is_sign(sheet, next) {
-        let minus = sheet.token(next).kind.is(Kind::Minus);
-        let item = item_at(sheet, names, minus, next + 1);
-        tables.push_item(item.item);
-        next = item.next;
-        rest -= 1;
+    // The item at a position.
+    fn item_at(self, minus: bool, at: usize) -> Past<Item>
+        requires { at ≤ 16390 }
+        ensures item { lists.item_of result.value ≡ item_of self.entry.sheet.text.now (scope_of self.entry.sheet self.entry.names.now []) (item_at (look_of (source_of self.entry.sheet)) minus at).value }
+        ensures next { result.next ≡ (item_at (look_of (source_of self.entry.sheet)) minus at).next }
+        ensures near { result.next ≤ at + 3 }
+    {
+        let read = self.sheet.source().item_at(at);
+        Past {
+            value: Item {
+                factor: factor_of(minus, read.factor, read.atom),
+                atom: self.atom_of(read.atom),
+            },
+            next: at + read.size,
+        }
     }
-    next
-}
 
-// The condition at a position, its items in their table.
-fn condition_at(
-    sheet: Written<'_>,
-    names: &[usize],
-    at: usize,
-    tables: &mut Laid<'_>,
-) -> ConditionAt
-    requires fit { Fit sheet }
-    requires near { at ≤ 16384 }
-    requires room { length (columns_of tables.old).items.entries + condition_weight (condition_at (length sheet.tokens.now) (look_of (source_of sheet)) at).value ≤ (columns_of tables.old).items.room }
-    ensures formed { Formed (condition_of sheet.entry.text.now (scope_of sheet.entry names.now []) (condition_at (length sheet.entry.tokens.now) (look_of (source_of sheet.entry)) at).value) result.condition (columns_of tables.old).items.entries (columns_of tables.new).items.entries }
-    ensures size { length (columns_of tables.new).items.entries ≤ length (columns_of tables.old).items.entries + condition_weight (condition_at (length sheet.entry.tokens.now) (look_of (source_of sheet.entry)) at).value }
-    ensures others { ItemsAlone (columns_of tables.old) (columns_of tables.new) }
-    ensures next { result.next ≡ (condition_at (length sheet.entry.tokens.now) (look_of (source_of sheet.entry)) at).next }
-    ensures near { result.next ≤ 16393 }
-{
-    let from = tables.items();
-    let sign = side_at(sheet, names, at, tables);
-    let middle = tables.items();
-    let next = side_at(sheet, names, sign + 1, tables);
-    let to = tables.items();
-    let condition = Condition {
-        place: sheet.token(at).place,
-        comparison: comparison_of(sheet.token(sign).kind),
-        from,
-        middle,
-        to,
-    };
-    ConditionAt { condition, next }
-}
-
-// The conditions at a position go into their table, their items into theirs; where they lie is given.
-pub(crate) fn conditions_at(
-    sheet: Written<'_>,
-    names: &[usize],
-    at: usize,
-    tables: &mut Laid<'_>,
-) -> Stretch
-    requires fit { Fit sheet }
-    requires conditions { length (columns_of tables.old).conditions.entries + conditions_weight (conditions_at (length sheet.tokens.now) (look_of (source_of sheet)) at).value ≤ (columns_of tables.old).conditions.room }
-    requires items { length (columns_of tables.old).items.entries + conditions_weight (conditions_at (length sheet.tokens.now) (look_of (source_of sheet)) at).value ≤ (columns_of tables.old).items.room }
-    ensures listing { Listing (conditions_of sheet.entry.text.now (scope_of sheet.entry names.now []) (conditions_at (length sheet.entry.tokens.now) (look_of (source_of sheet.entry)) at).value) (columns_of tables.old).conditions.entries (columns_of tables.new).conditions.entries (columns_of tables.old).items.entries (columns_of tables.new).items.entries }
-    ensures stretch { (result.from ≡ length (columns_of tables.old).conditions.entries) × (result.to ≡ length (columns_of tables.new).conditions.entries) }
-    ensures size { length (columns_of tables.new).items.entries ≤ length (columns_of tables.old).items.entries + conditions_weight (conditions_at (length sheet.entry.tokens.now) (look_of (source_of sheet.entry)) at).value }
-    ensures others { ConditionsAlone (columns_of tables.old) (columns_of tables.new) }
-{
-    let from = tables.conditions();
-    let first = condition_at(sheet, names, at.min(sheet.tokens.len()), tables);
-    tables.push_condition(first.condition);
-    let mut next = first.next;
-    let mut rest = sheet.tokens.len();
-    while rest > 0 && sheet.token(next).kind.is(Kind::Comma) {
-        let one = condition_at(sheet, names, next + 1, tables);
-        tables.push_condition(one.condition);
-        next = one.next;
-        rest -= 1;
+    // The items of the side at a position go into their table; the position after it is given. There is room here and below, as the clauses ask, so what `push` answers is no news.
+    fn side_at(self, at: usize, tables: &mut Laid<'_>) -> usize
+        requires near { at ≤ 16390 }
+        requires room { length (columns_of tables.old).items.entries + length (side_at (length self.sheet.tokens.now) (look_of (source_of self.sheet)) at).value ≤ (columns_of tables.old).items.room }
+        ensures added { Added lists.item_of (map (item_of self.entry.sheet.text.now (scope_of self.entry.sheet self.entry.names.now [])) (side_at (length self.entry.sheet.tokens.now) (look_of (source_of self.entry.sheet)) at).value) (columns_of tables.old).items.entries (columns_of tables.new).items.entries }
+        ensures others { ItemsAlone (columns_of tables.old) (columns_of tables.new) }
+        ensures next { result ≡ (side_at (length self.entry.sheet.tokens.now) (look_of (source_of self.entry.sheet)) at).next }
+        ensures near { result ≤ max at 16384 + 3 }
+    {
+        let first = self.item_at(false, at);
+        let _ = tables.push(first.value);
+        let mut next = first.next;
+        for _turn in 0..self.sheet.tokens.len() {
+            if !self.sheet.is_sign(next) {
+                break;
+            }
+            let minus = self.sheet.token(next).is(Kind::Minus);
+            let item = self.item_at(minus, next + 1);
+            let _ = tables.push(item.value);
+            next = item.next;
+        }
+        next
     }
-    Stretch {
-        from,
-        to: tables.conditions(),
-    }
-}
 
-// The same of the conditions after a keyword, if that stands at the position.
-pub(crate) fn optional_at(
-    sheet: Written<'_>,
-    names: &[usize],
-    keyword: Kind,
-    at: usize,
-    tables: &mut Laid<'_>,
-) -> Stretch
-    requires fit { Fit sheet }
-    requires keyword { same_kind Kind.End keyword ≡ false }
-    requires conditions { length (columns_of tables.old).conditions.entries + conditions_weight (optional_at (length sheet.tokens.now) (look_of (source_of sheet)) keyword at) ≤ (columns_of tables.old).conditions.room }
-    requires items { length (columns_of tables.old).items.entries + conditions_weight (optional_at (length sheet.tokens.now) (look_of (source_of sheet)) keyword at) ≤ (columns_of tables.old).items.room }
-    ensures listing { Listing (conditions_of sheet.entry.text.now (scope_of sheet.entry names.now []) (optional_at (length sheet.entry.tokens.now) (look_of (source_of sheet.entry)) keyword at)) (columns_of tables.old).conditions.entries (columns_of tables.new).conditions.entries (columns_of tables.old).items.entries (columns_of tables.new).items.entries }
-    ensures stretch { (result.from ≡ length (columns_of tables.old).conditions.entries) × (result.to ≡ length (columns_of tables.new).conditions.entries) }
-    ensures size { length (columns_of tables.new).items.entries ≤ length (columns_of tables.old).items.entries + conditions_weight (optional_at (length sheet.entry.tokens.now) (look_of (source_of sheet.entry)) keyword at) }
-    ensures others { ConditionsAlone (columns_of tables.old) (columns_of tables.new) }
-{
-    if sheet.token(at).kind.is(keyword) {
-        conditions_at(sheet, names, at + 1, tables)
-    } else {
-        let here = tables.conditions();
+    // The condition at a position, its items in their table.
+    fn condition_at(self, at: usize, tables: &mut Laid<'_>) -> Past<Condition>
+        requires near { at ≤ 16384 }
+        requires room { length (columns_of tables.old).items.entries + condition_weight (condition_at (length self.sheet.tokens.now) (look_of (source_of self.sheet)) at).value ≤ (columns_of tables.old).items.room }
+        ensures formed { Formed (condition_of self.entry.sheet.text.now (scope_of self.entry.sheet self.entry.names.now []) (condition_at (length self.entry.sheet.tokens.now) (look_of (source_of self.entry.sheet)) at).value) result.value (columns_of tables.old).items.entries (columns_of tables.new).items.entries }
+        ensures size { length (columns_of tables.new).items.entries ≤ length (columns_of tables.old).items.entries + condition_weight (condition_at (length self.entry.sheet.tokens.now) (look_of (source_of self.entry.sheet)) at).value }
+        ensures others { ItemsAlone (columns_of tables.old) (columns_of tables.new) }
+        ensures next { result.next ≡ (condition_at (length self.entry.sheet.tokens.now) (look_of (source_of self.entry.sheet)) at).next }
+        ensures near { result.next ≤ 16393 }
+    {
+        let from = tables.count::<Item>();
+        let sign = self.side_at(at, tables);
+        let middle = tables.count::<Item>();
+        let next = self.side_at(sign + 1, tables);
+        let to = tables.count::<Item>();
+        let condition = Condition {
+            place: self.sheet.token(at).place,
+            comparison: comparison_of(self.sheet.token(sign)),
+            from,
+            middle,
+            to,
+        };
+        Past {
+            value: condition,
+            next,
+        }
+    }
+
+    // The conditions at a position go into their table, their items into theirs; where they lie is given.
+    pub(crate) fn conditions_at(self, at: usize, tables: &mut Laid<'_>) -> Stretch
+        requires conditions { length (columns_of tables.old).conditions.entries + conditions_weight (conditions_at (length self.sheet.tokens.now) (look_of (source_of self.sheet)) at).value ≤ (columns_of tables.old).conditions.room }
+        requires items { length (columns_of tables.old).items.entries + conditions_weight (conditions_at (length self.sheet.tokens.now) (look_of (source_of self.sheet)) at).value ≤ (columns_of tables.old).items.room }
+        ensures listing { Listing (conditions_of self.entry.sheet.text.now (scope_of self.entry.sheet self.entry.names.now []) (conditions_at (length self.entry.sheet.tokens.now) (look_of (source_of self.entry.sheet)) at).value) (columns_of tables.old).conditions.entries (columns_of tables.new).conditions.entries (columns_of tables.old).items.entries (columns_of tables.new).items.entries }
+        ensures stretch { (result.from ≡ length (columns_of tables.old).conditions.entries) × (result.to ≡ length (columns_of tables.new).conditions.entries) }
+        ensures size { length (columns_of tables.new).items.entries ≤ length (columns_of tables.old).items.entries + conditions_weight (conditions_at (length self.entry.sheet.tokens.now) (look_of (source_of self.entry.sheet)) at).value }
+        ensures others { ConditionsAlone (columns_of tables.old) (columns_of tables.new) }
+    {
+        let from = tables.count::<Condition>();
+        let first = self.condition_at(at.min(self.sheet.tokens.len()), tables);
+        let _ = tables.push(first.value);
+        let mut next = first.next;
+        for _turn in 0..self.sheet.tokens.len() {
+            if !self.sheet.token(next).is(Kind::Comma) {
+                break;
+            }
+            let one = self.condition_at(next + 1, tables);
+            let _ = tables.push(one.value);
+            next = one.next;
+        }
         Stretch {
-            from: here,
-            to: here,
+            from,
+            to: tables.count::<Condition>(),
+        }
+    }
+
+    // The same of the conditions after a keyword, if that stands at the position.
+    pub(crate) fn optional_at(self, keyword: Kind, at: usize, tables: &mut Laid<'_>) -> Stretch
+        requires keyword { same_kind Kind.End keyword ≡ false }
+        requires conditions { length (columns_of tables.old).conditions.entries + conditions_weight (optional_at (length self.sheet.tokens.now) (look_of (source_of self.sheet)) keyword at) ≤ (columns_of tables.old).conditions.room }
+        requires items { length (columns_of tables.old).items.entries + conditions_weight (optional_at (length self.sheet.tokens.now) (look_of (source_of self.sheet)) keyword at) ≤ (columns_of tables.old).items.room }
+        ensures listing { Listing (conditions_of self.entry.sheet.text.now (scope_of self.entry.sheet self.entry.names.now []) (optional_at (length self.entry.sheet.tokens.now) (look_of (source_of self.entry.sheet)) keyword at)) (columns_of tables.old).conditions.entries (columns_of tables.new).conditions.entries (columns_of tables.old).items.entries (columns_of tables.new).items.entries }
+        ensures stretch { (result.from ≡ length (columns_of tables.old).conditions.entries) × (result.to ≡ length (columns_of tables.new).conditions.entries) }
+        ensures size { length (columns_of tables.new).items.entries ≤ length (columns_of tables.old).items.entries + conditions_weight (optional_at (length self.entry.sheet.tokens.now) (look_of (source_of self.entry.sheet)) keyword at) }
+        ensures others { ConditionsAlone (columns_of tables.old) (columns_of tables.new) }
+    {
+        if self.sheet.token(at).is(keyword) {
+            self.conditions_at(at + 1, tables)
+        } else {
+            let here = tables.count::<Condition>();
+            Stretch {
+                from: here,
+                to: here,
+            }
         }
     }
 }

@@ -5,7 +5,6 @@ mod conditions;
 mod context;
 mod exprs;
 mod heads;
-mod item;
 mod lookups;
 mod nodes;
 mod rules;

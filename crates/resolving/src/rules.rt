@@ -9,54 +9,60 @@ ghost use Rattle.records.specs.Laying.{columns_of};
 ghost use Rattle.resolving.specs.Growing.{Roomy};
 ghost use Rattle.resolving.specs.Ruling.{rule_by, RuleMade, RulesMade, Empty, Ample, SameRooms};
 
-use crate::conditions::optional_at;
-use crate::context::Context;
-use crate::exprs::expr;
+use crate::context::{Context, Scoped};
 use crate::heads::params_at;
 use crate::nodes::place;
 use letters::Kind;
-use naming::{Ruled, Written};
+use naming::{LIST_ROOM, NAME_ROOM, Ruled, Scope, Written};
 use pile::Pile;
 use records::{Entry, Laid};
 
-// A rule goes into the tables, its body at a position below `top`; its entry is given.
-fn rule(
-    sheet: Written<'_>,
-    rules: &[usize],
-    ruled: Ruled,
-    top: usize,
-    names: &mut Pile<'_, usize>,
-    lists: &mut Pile<'_, usize>,
-    tables: &mut Laid<'_>,
-) -> Entry
-    requires fit { Fit sheet }
-    requires rules { tokens_of sheet rules.now ≡ map (λ (r : raw.Rule). r.name) (rules_of sheet) }
-    requires top { top ≤ 16384 }
-    requires names { 32769 ≤ room names.old }
-    requires lists { 16385 ≤ room lists.old }
-    requires roomy { Roomy (rule_weight (rule_by sheet top ruled)) (columns_of tables.old) }
-    requires params { length (columns_of tables.old).params.entries + rule_weight (rule_by sheet top ruled) ≤ (columns_of tables.old).params.room }
-    ensures made { RuleMade (sheet_of sheet.entry) (rule_by sheet.entry top ruled) result (columns_of tables.old) (columns_of tables.new) }
-    ensures room { (room names.new ≡ room names.old) × (room lists.new ≡ room lists.old) }
-{
-    names.fall_back(0);
-    lists.fall_back(0);
-    let _ = sheet.declare(sheet.head(ruled.params), names, lists);
-    let params = params_at(sheet, sheet.head(ruled.params), tables);
-    let needs = optional_at(sheet, names.as_slice(), Kind::Needs, ruled.needs, tables);
-    let gives = optional_at(sheet, names.as_slice(), Kind::Gives, ruled.gives, tables);
-    let context = Context {
-        sheet,
-        rules,
-        lists: lists.as_slice(),
-    };
-    let body = expr(&context, names, top, ruled.body, tables);
-    Entry {
-        place: place(sheet, ruled.keyword),
-        params,
-        needs,
-        gives,
-        body,
+impl Context<'_, '_, '_> {
+    // A rule goes into the tables, its body at a position below `top`; its entry is given.
+    fn rule(&self, ruled: Ruled, top: usize, scope: &mut Scope<'_>, tables: &mut Laid<'_>) -> Entry
+        requires top { top ≤ 16384 }
+        requires roomy { Roomy (rule_weight (rule_by self.now.sheet top ruled)) (columns_of tables.old) }
+        requires params { length (columns_of tables.old).params.entries + rule_weight (rule_by self.now.sheet top ruled) ≤ (columns_of tables.old).params.room }
+        ensures { RuleMade (sheet_of self.now.sheet) (rule_by self.now.sheet top ruled) result (columns_of tables.old) (columns_of tables.new) }
+    {
+        let sheet = self.sheet;
+        let _ = scope.enter(sheet.params(ruled.params));
+        let params = params_at(sheet, ruled.params, tables);
+        let scoped = Scoped {
+            sheet,
+            names: scope.names.as_slice(),
+        };
+        let needs = scoped.optional_at(Kind::Needs, ruled.needs, tables);
+        let gives = scoped.optional_at(Kind::Gives, ruled.gives, tables);
+        let context = Context {
+            sheet,
+            rules: self.rules,
+            lists: scope.lists.as_slice(),
+        };
+        let body = context.expr(&mut scope.names, top, ruled.body, tables);
+        Entry {
+            place: place(sheet, ruled.keyword),
+            params,
+            needs,
+            gives,
+            body,
+        }
+    }
+
+    // All rules go into the tables, which are empty, rule after rule.
+    fn all_rules(&self, scope: &mut Scope<'_>, tables: &mut Laid<'_>)
+        requires empty { Empty (columns_of tables.old) }
+        requires ample { Ample (weight_of (rules_of self.now.sheet)) (columns_of tables.old) }
+        ensures made { RulesMade (sheet_of self.now.sheet) (rules_of self.now.sheet) (columns_of tables.new) }
+        ensures rooms { SameRooms (columns_of tables.old) (columns_of tables.new) }
+    {
+        let sheet = self.sheet;
+        for at in 0..sheet.nodes.len() {
+            if let Some(ruled) = sheet.rule(at) {
+                let entry = self.rule(ruled, at, scope, tables);
+                let _ = tables.push(entry);
+            }
+        }
     }
 }
 
@@ -68,32 +74,7 @@ fn rule_names(sheet: Written<'_>, names: &mut Pile<'_, usize>)
     names.fall_back(0);
     for at in 0..sheet.nodes.len() {
         if let Some(ruled) = sheet.rule(at) {
-            names.push(ruled.name);
-        }
-    }
-}
-
-// All rules go into the tables, which are empty, rule after rule.
-fn all_rules(
-    sheet: Written<'_>,
-    rules: &[usize],
-    names: &mut Pile<'_, usize>,
-    lists: &mut Pile<'_, usize>,
-    tables: &mut Laid<'_>,
-)
-    requires fit { Fit sheet }
-    requires rules { tokens_of sheet rules.now ≡ map (λ (r : raw.Rule). r.name) (rules_of sheet) }
-    requires names { 32769 ≤ room names.old }
-    requires lists { 16385 ≤ room lists.old }
-    requires empty { Empty (columns_of tables.old) }
-    requires ample { Ample (weight_of (rules_of sheet)) (columns_of tables.old) }
-    ensures made { RulesMade (sheet_of sheet.entry) (rules_of sheet.entry) (columns_of tables.new) }
-    ensures rooms { SameRooms (columns_of tables.old) (columns_of tables.new) }
-{
-    for at in 0..sheet.nodes.len() {
-        if let Some(ruled) = sheet.rule(at) {
-            let entry = rule(sheet, rules, ruled, at, names, lists, tables);
-            tables.push_entry(entry);
+            let _ = names.push(ruled.name);
         }
     }
 }
@@ -107,11 +88,18 @@ pub fn resolve(sheet: Written<'_>, tables: &mut Laid<'_>)
     ensures rooms { SameRooms (columns_of tables.old) (columns_of tables.new) }
 {
     let mut rule_room = [0; 16384];
-    let mut name_room = [0; 32769];
-    let mut list_room = [0; 16385];
+    let mut name_room = [0; NAME_ROOM];
+    let mut list_room = [0; LIST_ROOM];
     let mut rules = Pile::over(&mut rule_room);
-    let mut names = Pile::over(&mut name_room);
-    let mut lists = Pile::over(&mut list_room);
+    let mut scope = Scope {
+        names: Pile::over(&mut name_room),
+        lists: Pile::over(&mut list_room),
+    };
     rule_names(sheet, &mut rules);
-    all_rules(sheet, rules.as_slice(), &mut names, &mut lists, tables);
+    let context = Context {
+        sheet,
+        rules: rules.as_slice(),
+        lists: &[],
+    };
+    context.all_rules(&mut scope, tables);
 }

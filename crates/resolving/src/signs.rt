@@ -2,32 +2,29 @@ ghost use Rattle.std.specs.Prelude.{◌≡◌};
 ghost use Rattle.naming.specs.Resolving.{operator_of, comparison_of};
 
 use language::{Comparison, Operator};
-use letters::Kind;
+use letters::{Kind, Token};
 
 // The operator that a sign stands for.
-pub(crate) fn operator_of(kind: Kind) -> Operator
-    ensures { result ≡ operator_of kind }
+#[tactic(auto, unfolding(letters::specs::Kinds::same_kind))]
+pub(crate) fn operator_of(sign: Token) -> Operator
+    ensures { result ≡ operator_of sign.kind }
 {
-    if kind.is(Kind::Plus) {
-        Operator::Sum
-    } else if kind.is(Kind::Minus) {
-        Operator::Difference
-    } else {
-        Operator::Product
+    match sign.kind {
+        Kind::Plus => Operator::Sum,
+        Kind::Minus => Operator::Difference,
+        _ => Operator::Product,
     }
 }
 
 // The comparison that a sign stands for.
-pub(crate) fn comparison_of(kind: Kind) -> Comparison
-    ensures { result ≡ comparison_of kind }
+#[tactic(auto, unfolding(letters::specs::Kinds::same_kind))]
+pub(crate) fn comparison_of(sign: Token) -> Comparison
+    ensures { result ≡ comparison_of sign.kind }
 {
-    if kind.is(Kind::Less) {
-        Comparison::Less
-    } else if kind.is(Kind::AtMost) {
-        Comparison::LessOrEqual
-    } else if kind.is(Kind::Equal) {
-        Comparison::Equal
-    } else {
-        Comparison::NotEqual
+    match sign.kind {
+        Kind::Less => Comparison::Less,
+        Kind::AtMost => Comparison::LessOrEqual,
+        Kind::Equal => Comparison::Equal,
+        _ => Comparison::NotEqual,
     }
 }

@@ -1,7 +1,7 @@
 -- What the limits of a row give.
-use Rattle.std.proofs.Common.{◌≡◌, ℕ, zero, suc, ◌+◌, ◌<◌, ◌≤◌, true, ◌&&◌, List, [], ◌∷◌, length, get_or, drop, ℤ, pos, negsuc, ap, arith}
+use Rattle.std.proofs.Common.{◌≡◌, ℕ, zero, suc, true, ◌&&◌, List, [], ◌∷◌, get_or, ℤ, pos, negsuc, refl, ap, arith}
+use Rattle.std.specs.List.{list_all}
 use lib.Signed.{le_z}
-use Rattle.std.proofs.lemmas.List.{drop_more, drop_all}
 use Rattle.std.proofs.lemmas.Int.{ints}
 use Rattle.std.proofs.lemmas.Bool.{and_parts}
 use Rattle.ints.specs.Sums.{Near}
@@ -24,10 +24,7 @@ coef-near r j = small_at r.coefs j (and_parts (small r.bound) (all_small r.coefs
 pub bound-near : (r : Row) → Near 4000000 r.bound
 bound-near r = small_is r.bound (and_parts (small r.bound) (all_small r.coefs) r.ok).0
 
-pub small-more : (zs : List ℤ) (i : ℕ) → i < length zs → all_small (drop i zs) ≡ (small (get_or zs i (pos 0)) && all_small (drop (i + 1) zs))
+pub all_small_is : (zs : List ℤ) → all_small zs ≡ list_all small zs
 unfolding all_small
-small-more zs i h = ap all_small (drop_more zs i (pos 0) h)
-
-pub small_all : (zs : List ℤ) (i : ℕ) → length zs ≤ i → all_small (drop i zs) ≡ true
-unfolding all_small
-small_all zs i h = ap all_small (drop_all i zs h)
+all_small_is [] = refl
+all_small_is (z ∷ zs) = ap (λ b. small z && b) (all_small_is zs)

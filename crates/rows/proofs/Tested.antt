@@ -1,6 +1,7 @@
 -- The tests decide what they stand for.
-use Rattle.std.proofs.Common.{◌≡◌, Bool, true, false, not, List, [], ◌∷◌, ℤ, sym, refl, ap, ◌∙◌, arith}
+use Rattle.std.proofs.Common.{◌≡◌, Bool, true, false, not, ◌&&◌, List, [], ◌∷◌, ℤ, sym, refl, ap, ◌∙◌, arith}
 use lib.Signed.{le_z}
+use Rattle.std.specs.List.{list_all}
 use Rattle.std.proofs.lemmas.Int.{ints}
 use Rattle.std.proofs.lemmas.Bool.{and_parts, and_from}
 use Rattle.ints.specs.Tests.{eq_z}
@@ -8,7 +9,7 @@ use Rattle.rows.specs.declared.row.Row.{Row}
 use Rattle.rows.specs.declared.row.Kind.{Kind}
 use Rattle.rows.specs.declared.row.Kind.TheVariants.{AtMost, Unequal}
 use Rattle.rows.specs.Meaning.{Assignment, Holds, MeetsAll}
-use Rattle.rows.specs.Testing.{holds, meets_all}
+use Rattle.rows.specs.Testing.{holds, meets, meets_all}
 
 pub holds-is : (k : Kind) (v b : ℤ) → holds k v b ≡ true → Holds k v b
 holds-is AtMost v b h = omega (arith, ints, h)
@@ -31,3 +32,8 @@ pub is-meets-all : (q : Assignment) (rs : List Row) → MeetsAll q rs → meets_
 unfolding meets_all
 is-meets-all q [] h = refl
 is-meets-all q (r ∷ rs) h = and_from _ _ (is-holds _ _ _ h.0) (is-meets-all q rs h.1)
+
+pub meets_each : (q : Assignment) (rs : List Row) → meets_all q rs ≡ list_all (meets q) rs
+unfolding meets_all
+meets_each q [] = refl
+meets_each q (r ∷ rs) = ap (λ b. meets q r && b) (meets_each q rs)

@@ -7,7 +7,7 @@ use crate::row::{Kind, Row};
 pub const MOST_FACTS: usize = 24;
 
 // Does every assignment in some range that meets the facts meet the goal?
-#[derive(Clone, Copy)]
+#[derive(Clone, Copy, Debug, PartialEq, Eq)]
 pub struct Question<'a> {
     pub facts: &'a [Row],
     pub goal: &'a Row,
@@ -18,6 +18,6 @@ impl Question<'_> {
     pub fn well_shaped(self) -> bool
         ensures { result ≡ well_shaped self.entry.facts.now self.entry.goal.now }
     {
-        self.facts.len() <= MOST_FACTS && matches!(self.goal.kind(), Kind::AtMost)
+        self.facts.len() <= MOST_FACTS && self.goal.kind() == Kind::AtMost
     }
 }

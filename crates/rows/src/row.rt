@@ -10,14 +10,14 @@ pub const QUANTITIES: usize = 16;
 pub const ROW_LIMIT: i32 = 4_000_000;
 
 // What a row says of its sum: that it is at most the bound, or that it is not the bound.
-#[derive(Clone, Copy)]
+#[derive(Clone, Copy, Debug, PartialEq, Eq)]
 pub enum Kind {
     AtMost,
     Unequal,
 }
 
 // A statement about the quantities: the sum of coefficient times quantity, set against the bound.
-#[derive(Clone, Copy)]
+#[derive(Clone, Copy, Debug, PartialEq, Eq)]
 pub struct Row {
     coefs: [i32; 16],
     bound: i32,

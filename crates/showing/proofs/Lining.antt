@@ -64,9 +64,6 @@ module _ (text : List ℕ) where
         }
   ]
 
-  pub feed-within : (f : ℕ) → f ≤ length text → feed_of text f ≤ length text
-  feed-within f h = (fed (length text - f) f (omega arith)).within
-
   -- without a carriage return before the line feed
   record Shown (start feed end : ℕ) : Type 0 where
     reaches : (start ≤ end) × (end ≤ feed) × (feed ≤ end + 1)

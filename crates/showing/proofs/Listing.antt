@@ -1,11 +1,18 @@
 -- Kinds in words, one after the other.
-use Rattle.std.proofs.Common.{◌≡◌, ℕ, ◌+◌, ◌-◌, ◌<◌, Bool, true, false, cond, List, ◌++◌, length, get_or, drop, count_by, sym, refl, ap, ◌∙◌, arith}
+use Rattle.std.proofs.Common.{◌≡◌, ℕ, ◌+◌, ◌-◌, ◌<◌, Bool, true, false, cond, List, ◌∷◌, ◌++◌, length, get_or, drop, count_by, sym, refl, ap, ◌∙◌, arith}
 use Rattle.std.proofs.lemmas.List.{append_assoc, at_drop_more}
 use Rattle.std.proofs.lemmas.List.Sums.{sum_by-drop_more}
 use Rattle.std.proofs.lemmas.Bool.{cond-true, cond-false}
 use Rattle.letters.specs.declared.kind.Kind.{Kind}
+use Rattle.letters.specs.declared.kind.Kind.TheVariants.{Name, Numeral, End, Open, Close, OpenSquare, CloseSquare, Comma, Semicolon, Plus, Minus, Times, Less, AtMost, Equal, Unequal, Becomes}
 use Rattle.letters.specs.Every.{kinds}
+use Rattle.letters.specs.Kinds.{keywords}
 use Rattle.showing.specs.Kinds.{kind_text, joint, listed}
+
+-- every kind, written out
+pub every : Name ∷ Numeral ∷ End ∷ Open ∷ Close ∷ OpenSquare ∷ CloseSquare ∷ Comma ∷ Semicolon ∷ Plus ∷ Minus ∷ Times ∷ Less ∷ AtMost ∷ Equal ∷ Unequal ∷ Becomes ∷ keywords ≡ kinds
+unfolding kinds
+every = refl
 
 pub all_kinds : length kinds ≡ 28
 unfolding kinds

@@ -1,12 +1,9 @@
--- Blanks and tabs stand under the (take (line.column - 1) (drop line.start text)) of a line.
-use Rattle.std.proofs.Common.{◌≡◌, ℕ, ◌+◌, ◌-◌, ◌<◌, ◌≤◌, eqb, List, map, length, get_or, take, drop, ap, ◌∙◌, arith, lit<}
+-- Blanks and tabs stand under the bytes of a line before its column.
+use Rattle.std.proofs.Common.{◌≡◌, ℕ, ◌+◌, ◌-◌, ◌<◌, ◌≤◌, eqb, List, map, length, get_or, take, drop, ap, ◌∙◌, arith}
 use Rattle.std.proofs.lemmas.List.{length-map, length-take, length-drop, get_or-map, get_or-take, get_or-drop}
-use Rattle.std.proofs.lemmas.Bool.{eq-eqb, ne_eqb, cond-true, cond-false, cond_both}
+use Rattle.std.proofs.lemmas.Bool.{eq-eqb, ne_eqb, cond-true, cond-false}
 use Rattle.showing.specs.declared.line.Line.{Line}
 use Rattle.showing.specs.Marks.{blank, blanks_to, Under}
-
-pub blank-ascii : (b : ℕ) → blank b < 128
-blank-ascii b = cond_both (eqb b 9) 9 32 (λ n. n < 128) (λ _. lit< tt) (λ _. lit< tt)
 
 pub under : (text : List ℕ) (line : Line) → line.start + line.column ≤ length text + 1 → line.start ≤ length text → Under text line (blanks_to text line)
 under text line h g = record {

@@ -20,6 +20,8 @@ use Rattle.grammar.specs.Held.{Comes}
 use Rattle.grammar.specs.Parsed.{Parsed}
 use Rattle.grammar.specs.Derives.{DSheet, Upto}
 use Rattle.grammar.specs.Lawful.{Lawful}
+use Rattle.showing.specs.declared.probe.Probe.{Probe}
+use Rattle.showing.specs.Fronts.{front, Kept}
 use Rattle.showing.specs.Probes.{Apart, probed, passed, reads, stops, Tells}
 
 module _ (ts : List Token) (w : ℕ) (k : Kind) (apart : Apart ts w) where
@@ -54,6 +56,22 @@ module _ (ts : List Token) (w : ℕ) (k : Kind) (apart : Apart ts w) where
         dead = subst (λ j. (m : Look) → Upto j probe m → (rs : Sheet) → DSheet m rs → ⊥) (sole g.faulty (sym g.place ∙ eqb-true f w e)) g.dead;
       }
       go false e = stops p.said.1.faulty (λ q. eqb-false f w e (p.said.1.place ∙ ap (λ j. (probe j).place) q ∙ there)) p.said.1.came
+
+  pub tells_so : (r : Result ℕ Unread) (room : ℕ) (ns : List Node) (us : List Token) (e n v : ℕ) (b : Bool) → us ≡ probed ts w k → e ≡ w + 1 → length ts ≡ n → v ≡ w → b ≡ passed r v
+      → Parsed r us e room ns → Lawful r us e ns → n < room → Tells b probe n
+  tells_so r room ns us e n v b q p z o s h g l =
+      let h' = subst (λ (us : List Token). Parsed r us (w + 1) room ns) q (subst (λ e. Parsed r us e room ns) p h) in
+      let g' = subst (λ (us : List Token). Lawful r us (w + 1) ns) q (subst (λ e. Lawful r us e ns) p g) in
+      subst (Tells b probe) z (subst (λ b. Tells b probe (length ts)) (sym (s ∙ ap (passed r) o)) (tells r room ns h' g' (subst (λ m. m < room) (sym z) l)))
+
+-- what is told of the same tokens before the same place
+pub kept_tells : {p q : Probe} (b : Bool) (k : Kind) → Kept p q → Tells b (look_in (probed (front q) q.place k) (q.place + 1)) q.at → Tells b (look_in (probed (front p) p.place k) (p.place + 1)) p.at
+kept_tells {p} {q} b k s h =
+    subst (Tells b (look_in (probed (front p) p.place k) (p.place + 1))) s.at
+    (subst (λ w. Tells b (look_in (probed (front p) w k) (w + 1)) q.at) s.place (subst (λ (ts : List Token). Tells b (look_in (probed ts q.place k) (q.place + 1)) q.at) s.front h))
+
+pub kept_on : {p q r : Probe} → Kept p q → Kept q r → Kept p r
+kept_on s t = record { front = t.front ∙ s.front; at = t.at ∙ s.at; place = t.place ∙ s.place }
 
 number_small : (k : Kind) → number k < 28
 number_small k = search rules

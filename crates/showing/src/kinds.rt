@@ -36,8 +36,8 @@ pub const KINDS: [Kind; 28] = [
     Kind::TheResult,
 ];
 
-// Some of the kinds: a flag for each, by its number.
-#[derive(Clone, Copy)]
+// Some of the kinds: a flag for each, by its number. There are so many kinds and no more, so this is an array and no set on the heap.
+#[derive(Clone, Copy, Debug, PartialEq, Eq)]
 pub struct Kinds {
     pub flags: [bool; 28],
 }
@@ -53,12 +53,6 @@ impl Kinds {
     pub fn count(self) -> usize
         ensures { result ≡ count_by (among self) kinds }
     {
-        let mut count = 0;
-        for kind in KINDS {
-            if self.has(kind) {
-                count += 1;
-            }
-        }
-        count
+        KINDS.iter().filter(|kind| self.has(**kind)).count()
     }
 }

@@ -4,6 +4,7 @@
 pub mod kinds;
 mod line;
 mod marks;
+mod probe;
 mod probes;
 mod words;
 

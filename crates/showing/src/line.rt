@@ -1,9 +1,9 @@
-ghost use Rattle.std.specs.Prelude.{◌≡◌, ◌+◌, ◌-◌, ◌≤◌, min, length, take, drop, count_by};
+ghost use Rattle.std.specs.Prelude.{◌≡◌, ◌≤◌, min, length, count_by};
 ghost use Rattle.std.specs.List.{prefix_len, suffix_len};
 ghost use Rattle.showing.specs.Lines.{is_feed, of_line, shown_to, line_of, Stands};
 
 // The line of a text in which a byte stands. Lines and columns are counted from 1, columns in bytes. The line's bytes go from `start` up to `end`, without what ends the line: a line feed, or a carriage return and a line feed.
-#[derive(Clone, Copy)]
+#[derive(Clone, Copy, Debug, PartialEq, Eq)]
 pub struct Line {
     pub number: usize,
     pub column: usize,
@@ -13,39 +13,26 @@ pub struct Line {
 
 // How many line feeds there are.
 fn feeds(text: &[u8]) -> usize
-    ensures { result ≡ count_by is_feed text.now }
+    ensures told { result ≡ count_by is_feed text.now }
+    ensures within { result ≤ length text.now }
 {
-    let mut count = 0;
-    for byte in text {
-        if *byte == b'\n' {
-            count += 1;
-        }
-    }
-    count
+    text.iter().filter(|byte| **byte == b'\n').count()
 }
 
-// Where the line of a place begins.
-fn start_before(text: &[u8], place: usize) -> usize
-    requires { place ≤ length text.now }
-    ensures { result ≡ place - suffix_len of_line (take place text.now) }
+// How many bytes of the last line there are.
+fn last_of_line(text: &[u8]) -> usize
+    ensures told { result ≡ suffix_len of_line text.now }
+    ensures within { result ≤ length text.now }
 {
-    let mut start = place;
-    while start > 0 && text[start - 1] != b'\n' {
-        start -= 1;
-    }
-    start
+    text.iter().rev().take_while(|byte| **byte != b'\n').count()
 }
 
-// The first line feed from a place on, or the text's end.
-fn feed_after(text: &[u8], place: usize) -> usize
-    requires { place ≤ length text.now }
-    ensures { result ≡ place + prefix_len of_line (drop place text.now) }
+// How many bytes of the first line there are.
+fn first_of_line(text: &[u8]) -> usize
+    ensures told { result ≡ prefix_len of_line text.now }
+    ensures within { result ≤ length text.now }
 {
-    let mut feed = place;
-    while feed < text.len() && text[feed] != b'\n' {
-        feed += 1;
-    }
-    feed
+    text.iter().take_while(|byte| **byte != b'\n').count()
 }
 
 // Where a line ends for a reader, given its line feed: before a carriage return.
@@ -66,11 +53,12 @@ pub fn line_at(text: &[u8], place: usize) -> Line
     ensures law { Stands text.now (min place (length text.now)) result }
 {
     let place = place.min(text.len());
-    let start = start_before(text, place);
+    let (before, after) = text.split_at(place);
+    let start = place - last_of_line(before);
     Line {
-        number: feeds(&text[..place]) + 1,
+        number: feeds(before) + 1,
         column: place - start + 1,
         start,
-        end: shown_to(text, start, feed_after(text, place)),
+        end: shown_to(text, start, place + first_of_line(after)),
     }
 }

@@ -15,11 +15,7 @@ fn blank_under(byte: u8) -> char
 fn blanks(heap: Global, bytes: &[u8]) -> Result<String, AllocError>
     ensures { IfOk result (λ s. string_bytes s ≡ map blank bytes.now) }
 {
-    let mut text = String::new(heap);
-    for byte in bytes {
-        text.push(blank_under(*byte))?;
-    }
-    Ok(text)
+    bytes.iter().map(|byte| blank_under(*byte)).collect(heap)
 }
 
 // What brings a mark under a place of a text, written below the place's line: as wide as the line before it.

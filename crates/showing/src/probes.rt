@@ -1,9 +1,11 @@
-ghost use Rattle.std.specs.Prelude.{◌≡◌, ◌+◌, ◌^◌, ◌<◌, ◌≤◌, ◌++◌, length, take, drop};
+ghost use Rattle.std.specs.Prelude.{◌≡◌, ◌+◌, ◌<◌, ◌≤◌, ◌++◌, length, take, drop};
 ghost use Rattle.grammar.specs.Parsers.{look_in};
-ghost use Rattle.showing.specs.Probes.{number_at, Apart, probed, passed, Tells, TellsEach, Told};
+ghost use Rattle.showing.specs.Fronts.{front, Kept};
+ghost use Rattle.showing.specs.Probes.{number_at, probed, passed, Tells, TellsEach, Told};
 
 use crate::kinds::{KINDS, Kinds};
-use grammar::{Node, Unread, parse};
+use crate::probe::Probe;
+use grammar::{Node, Tokens, Unread, parse};
 use letters::{Kind, Token};
 
 // The number of the first token that begins at a place, or of the end.
@@ -11,54 +13,65 @@ fn number_at(tokens: &[Token], place: usize) -> usize
     ensures told { result ≡ number_at tokens.now place }
     ensures within { result ≤ length tokens.now }
 {
-    let mut at = 0;
-    while at < tokens.len() && tokens[at].place != place {
-        at += 1;
-    }
-    at
+    tokens
+        .iter()
+        .position(|token| token.place == place)
+        .unwrap_or(tokens.len())
 }
 
 // No fault was found at the place.
 fn is_past(read: Result<usize, Unread>, place: usize) -> bool
     ensures { result ≡ passed read place }
 {
-    match read {
-        Err(Unread::Fault(fault)) => fault != place,
-        _ => true,
-    }
+    !matches!(read, Err(Unread::Fault(fault)) if fault == place)
 }
 
-// The grammar goes past a token of this kind, which is put after the first tokens of the scratch.
-fn goes_past(scratch: &mut [Token], at: usize, place: usize, kind: Kind, nodes: &mut [Node]) -> bool
-    requires scratch { at < length scratch.old }
-    requires nodes { at < length nodes.old }
-    requires place { place + 1 < 2 ^ 64 }
-    requires apart { Apart (take at scratch.old) place }
-    ensures told { Tells result (look_in (probed (take at scratch.old) place kind) (place + 1)) at }
-    ensures kept { take at scratch.new ≡ take at scratch.old }
-{
-    scratch[at] = Token {
-        kind,
-        place,
-        size: 0,
-        value: 0,
-    };
-    is_past(parse(&scratch[0..at + 1], place + 1, nodes), place)
-}
-
-// The kinds of which the grammar goes past a token after the first tokens of the scratch.
-fn each_kind(scratch: &mut [Token], at: usize, place: usize, nodes: &mut [Node]) -> Kinds
-    requires scratch { at < length scratch.old }
-    requires nodes { at < length nodes.old }
-    requires place { place + 1 < 2 ^ 64 }
-    requires apart { Apart (take at scratch.old) place }
-    ensures { TellsEach result (take at scratch.old) place at }
-{
-    let mut flags = [false; 28];
-    for kind in KINDS {
-        flags[usize::from(kind.number())] = goes_past(scratch, at, place, kind, nodes);
+impl Probe<'_> {
+    // Puts a token of this kind behind the first ones.
+    fn put(&mut self, kind: Kind)
+        ensures tried { take (self.old.at + 1) self.new.scratch.now ≡ probed (front self.old) self.old.place kind }
+        ensures kept { Kept self.old self.new }
+    {
+        self.scratch[self.at] = Token {
+            kind,
+            place: self.place,
+            size: 0,
+            value: 0,
+        };
     }
-    Kinds { flags }
+
+    // The first tokens and the one behind them; the text ends after that.
+    fn source(&self) -> Tokens<'_>
+        ensures tokens { result.tokens.now ≡ take (self.now.at + 1) self.now.scratch.now }
+        ensures end { result.end ≡ self.now.place + 1 }
+    {
+        Tokens {
+            tokens: &self.scratch[..self.at + 1],
+            end: self.place + 1,
+        }
+    }
+
+    // The grammar goes past a token of this kind.
+    fn goes_past(&mut self, kind: Kind, nodes: &mut [Node]) -> bool
+        requires { self.old.at < length nodes.old }
+        ensures told { Tells result (look_in (probed (front self.old) self.old.place kind) (self.old.place + 1)) self.old.at }
+        ensures kept { Kept self.old self.new }
+    {
+        self.put(kind);
+        is_past(parse(self.source(), nodes), self.place)
+    }
+
+    // The kinds of which the grammar goes past a token.
+    fn each_kind(&mut self, nodes: &mut [Node]) -> Kinds
+        requires { self.old.at < length nodes.old }
+        ensures { TellsEach result (front self.old) self.old.place self.old.at }
+    {
+        let mut flags = [false; 28];
+        for kind in KINDS {
+            flags[usize::from(kind.number())] = self.goes_past(kind, nodes);
+        }
+        Kinds { flags }
+    }
 }
 
 // Writes tokens to the front of the scratch.
@@ -83,5 +96,6 @@ pub fn expected(
         return None;
     }
     copy_front(&tokens[0..at], scratch);
-    Some(each_kind(scratch, at, place, nodes))
+    let mut probe = Probe { scratch, at, place };
+    Some(probe.each_kind(nodes))
 }

@@ -1,24 +1,29 @@
-ghost use Rattle.std.specs.Prelude.{◌≡◌, ◌++◌, IfOk, string_bytes, OnOk};
+ghost use Rattle.std.specs.Prelude.{◌≡◌, ◌++◌, Some, IfOk, string_bytes, OnOk};
 ghost use Rattle.showing.specs.Kinds.{kind_text, joint, kinds_text};
 
 use crate::kinds::{KINDS, Kinds};
 use letters::Kind;
 use std::alloc::{AllocError, Global};
+use std::fmt;
 
-fn kind_text(heap: Global, kind: Kind) -> Result<String, AllocError>
-    ensures { IfOk result (λ s. string_bytes s ≡ kind_text kind) }
-{
-    if kind.is(Kind::Name) {
-        return String::from_str(heap, "a name");
+// A kind in words: a keyword or a sign as it is written, in quotes.
+#[derive(Clone, Copy)]
+struct InWords {
+    kind: Kind,
+}
+
+impl fmt::Display for InWords {
+    ghost output = { λ shown. Some (kind_text shown.kind) };
+
+    #[tactic(auto, unfolding(letters::specs::Kinds::same_kind))]
+    fn fmt<W: fmt::Write>(&self, f: &mut fmt::Formatter<W>) -> fmt::Result {
+        match self.kind {
+            Kind::Name => f.write_str("a name"),
+            Kind::Numeral => f.write_str("a numeral"),
+            Kind::End => f.write_str("the end of the text"),
+            kind => write!(f, "\"{kind}\""),
+        }
     }
-    if kind.is(Kind::Numeral) {
-        return String::from_str(heap, "a numeral");
-    }
-    if kind.is(Kind::End) {
-        return String::from_str(heap, "the end of the text");
-    }
-    let word = kind.word();
-    format!(in heap; "\"{word}\"")
 }
 
 // What stands after a kind, where so many follow.
@@ -32,17 +37,13 @@ fn joint_text(left: usize) -> &'static str
     }
 }
 
-fn push_kind(heap: Global, text: &mut String, kind: Kind, left: usize) -> Result<(), AllocError>
+fn push_kind(text: &mut String, kind: Kind, left: usize) -> Result<(), AllocError>
     ensures { OnOk result (string_bytes text.new ≡ string_bytes text.old ++ (kind_text kind ++ joint left)) }
 {
-    let name = kind_text(heap, kind)?;
-    let name = name.as_str();
-    let joint = joint_text(left);
-    let part = format!(in heap; "{name}{joint}")?;
-    text.push_str(part.as_str())
+    write!(text, "{}{}", InWords { kind }, joint_text(left))
 }
 
-// The kinds in words, as `a name, a numeral or "("`; nothing where there are none.
+// The kinds in words, as `a name, a numeral or "("`; nothing where there are none. A `for`, since a push can fail; `left` says how many kinds follow, which each joint needs.
 pub fn kinds_text(heap: Global, kinds: Kinds) -> Result<String, AllocError>
     ensures { IfOk result (λ s. string_bytes s ≡ kinds_text kinds) }
 {
@@ -51,7 +52,7 @@ pub fn kinds_text(heap: Global, kinds: Kinds) -> Result<String, AllocError>
     for kind in KINDS {
         if kinds.has(kind) {
             left -= 1;
-            push_kind(heap, &mut text, kind, left)?;
+            push_kind(&mut text, kind, left)?;
         }
     }
     Ok(text)

@@ -1,18 +1,16 @@
 -- Loops that hold each number to a limit.
 use Rattle.std.proofs.Common.{◌≡◌, ℕ, ◌+◌, ◌<◌, ◌≤◌, Bool, true, false, cond, ◌&&◌, List, [], ◌∷◌, length, get_or, drop, set, ℤ, pos, Some, None, sym, refl, ap, ◌∙◌, arith}
 use Rattle.std.proofs.lemmas.List.{at_drop_more, at_drop_all, ext_get_or}
+use Rattle.std.specs.List.{list_all}
 use Rattle.language.specs.Terms.{near, all_near}
 use Rattle.rows.specs.Limits.{all_small}
 use Rattle.terms.specs.Narrow.{within, all_within}
 use Rattle.terms.proofs.Filling.{Filled, filled_none, filled_more}
 
-pub near-more : (zs : List ℤ) (i : ℕ) → i < length zs → all_near (drop i zs) ≡ (near (get_or zs i (pos 0)) && all_near (drop (i + 1) zs))
+pub all_near_is : (zs : List ℤ) → all_near zs ≡ list_all near zs
 unfolding all_near
-near-more zs i h = at_drop_more all_near zs i (pos 0) h
-
-pub near-all : (zs : List ℤ) (i : ℕ) → length zs ≤ i → all_near (drop i zs) ≡ true
-unfolding all_near
-near-all zs i h = at_drop_all all_near zs i h
+all_near_is [] = refl
+all_near_is (z ∷ zs) = ap (λ (b : Bool). near z && b) (all_near_is zs)
 
 -- the tests of terms and of rows are tests against a limit
 pub within-near : (zs : List ℤ) → all_within (pos 1000000) zs ≡ all_near zs

@@ -1,5 +1,6 @@
-ghost use Rattle.std.specs.Prelude.{◌≡◌, pos};
+ghost use Rattle.std.specs.Prelude.{◌≡◌, pos, ◌-ℤ◌};
 ghost use Rattle.rows.specs.Rows.{row_of};
+ghost use Rattle.language.specs.Terms.{minus};
 ghost use Rattle.language.specs.Comparing.{at_most, unequal, rows, otherwise};
 ghost use Rattle.terms.specs.Listed.{list_of};
 ghost use Rattle.terms.specs.Totals.{sum_of, side_rows};
@@ -20,28 +21,39 @@ fn row(coefs: &[i64; 16], bound: i64, kind: Kind) -> Option<Row>
     Row::new(coefs, bound, kind)
 }
 
+// The row of t - u against u's constant less t's, less so much more.
+fn compared(t: &Term, u: &Term, less: i8, kind: Kind) -> Option<Row>
+    ensures { result ≡ row_of (minus t.now u.now).coefs ((u.now.constant -ℤ t.now.constant) -ℤ less) kind }
+{
+    let room = difference(u.constant, t.constant);
+    row(
+        &differences(&t.coefs, &u.coefs),
+        room - i64::from(less),
+        kind,
+    )
+}
+
 // t <= u
+#[tactic(auto, unfolding(language::specs::Comparing::at_most))]
 pub fn at_most(t: &Term, u: &Term) -> Option<Row>
     ensures { result ≡ at_most (pos 0) t.now u.now }
 {
-    let room = difference(u.constant, t.constant);
-    row(&differences(&t.coefs, &u.coefs), room, Kind::AtMost)
+    compared(t, u, 0, Kind::AtMost)
 }
 
 // t < u
+#[tactic(auto, unfolding(language::specs::Comparing::at_most))]
 pub fn below(t: &Term, u: &Term) -> Option<Row>
     ensures { result ≡ at_most (pos 1) t.now u.now }
 {
-    let room = difference(u.constant, t.constant);
-    row(&differences(&t.coefs, &u.coefs), room - 1, Kind::AtMost)
+    compared(t, u, 1, Kind::AtMost)
 }
 
 // t != u
 pub fn unequal(t: &Term, u: &Term) -> Option<Row>
     ensures { result ≡ unequal t.now u.now }
 {
-    let room = difference(u.constant, t.constant);
-    row(&differences(&t.coefs, &u.coefs), room, Kind::Unequal)
+    compared(t, u, 0, Kind::Unequal)
 }
 
 // The rows that say what the comparison says of two terms.
@@ -72,11 +84,8 @@ pub fn otherwise(comparison: Comparison, t: &Term, u: &Term) -> Rows
 pub fn condition_rows(comparison: Comparison, left: Total, right: Total) -> Rows
     ensures { list_of result ≡ side_rows comparison (sum_of left) (sum_of right) }
 {
-    let Some(t) = left.finish() else {
-        return Rows::One(None);
-    };
-    let Some(u) = right.finish() else {
-        return Rows::One(None);
-    };
-    rows(comparison, &t, &u)
+    match (left.finish(), right.finish()) {
+        (Some(t), Some(u)) => rows(comparison, &t, &u),
+        _ => Rows::One(None),
+    }
 }

@@ -13,9 +13,8 @@ use Rattle.language.specs.Walking.{Owing, owe, owe_all}
 use Rattle.records.specs.declared.condition.Condition.{Condition}
 use Rattle.records.specs.declared.laid.Laid.{Laid}
 use Rattle.records.specs.Columns.{Columns, no_condition}
-use Rattle.records.specs.Laying.{columns_of}
 use Rattle.records.specs.Tables.{condition_in, conditions_in}
-use Rattle.walking.specs.Owing.{Spacious, Pays, Breaks}
+use Rattle.walking.specs.Owing.{Pays, Breaks}
 use Rattle.std.proofs.lemmas.Option.{slice_get-get_or}
 use Rattle.terms.specs.declared.rowlist.Rows.{Rows}
 use Rattle.terms.specs.Listed.{list_of}
@@ -84,7 +83,3 @@ module _ (p : Columns) (ts : List Term) (r : Term) where
   pub rows-none : (from to : ℕ) → to ≤ from → rows_in p ts r from to ≡ []
   unfolding rows_in conditions_in
   rows-none from to h = ap (λ n. flat_map (condition_rows ts r) (map (condition_in p.items.entries) (take n (drop from p.conditions.entries)))) (let z : to - from ≡ 0 = omega arith in z)
-
--- a table with the same columns has as many records
-pub spacious-on : (t u : Laid) → columns_of u ≡ columns_of t → Spacious t → Spacious u
-spacious-on t u e s = let r = ap (λ (c : Columns). c.nodes.room) e in omega arith

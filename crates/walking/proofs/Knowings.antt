@@ -1,6 +1,8 @@
 -- How rows become facts, one after another.
-use Rattle.std.proofs.Common.{◌≡◌, ℕ, ◌<◌, ◌≤◌, ltb, List, [], ◌∷◌, ◌++◌, length, Some, None, Ok, Err, Option, Result, sym, refl, ap, ◌∙◌, subst}
+use Rattle.std.proofs.Common.{◌≡◌, true, is_ok, IsErrAnd, ℕ, ◌<◌, ◌≤◌, ltb, List, [], ◌∷◌, ◌++◌, length, Some, None, Ok, Err, Option, Result, sym, refl, ap, ◌∙◌, subst}
 use Rattle.std.proofs.lemmas.List.{append-nil, append_assoc}
+use Rattle.std.specs.Option.{ok_or}
+use Rattle.std.proofs.lemmas.Result.{err_from_is_err_and}
 use Rattle.std.proofs.lemmas.Bool.{lt-ltb, le-ltb}
 use Rattle.rows.specs.declared.row.Row.{Row}
 use Rattle.language.specs.declared.refusal.Refusal.{Refusal}
@@ -8,6 +10,22 @@ use Rattle.language.specs.declared.refusal.Refusal.TheVariants.{Full, Large}
 use Rattle.language.specs.Walking.{limit, assume, first_fault}
 use Rattle.language.proofs.Laws.{fault-first, fault-next}
 use Rattle.walking.specs.Knowing.{Took}
+
+-- what went well has nothing to give
+pub went_well : (r : Result (Unit {0}) Refusal) → is_ok r ≡ true → r ≡ Ok tt
+went_well (Ok tt) e = refl
+went_well (Err r) e = cc
+
+-- what the exit of a `?` gives
+pub refused : (result : Result (Unit {0}) Refusal) (e : Refusal) → IsErrAnd result (λ f. f ≡ e) → result ≡ Err e
+refused result e w = let given = err_from_is_err_and result w in given.1 ∙ ap Err given.2
+
+-- no row was given, and so it is refused
+pub refused_as : (o : Option Row) (r e : Refusal) (result : Result (Unit {0}) Refusal) → IsErrAnd result (λ f. f ≡ e) → Err e ≡ ok_or o r → o ≡ None → result ≡ Err r
+refused_as o r e result w v n =
+    let same : ◌≡◌ {A = Result Row Refusal} (Err e) (Err r) = v ∙ ap (λ o. ok_or o r) n in
+    let there : e ≡ r = cc in
+    refused result e w ∙ ap Err there
 
 module _ (place : ℕ) (facts : List Row) where
   pub large : first_fault (assume place facts (None ∷ [])).notes ≡ Some (Large place)

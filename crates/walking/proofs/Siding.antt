@@ -1,16 +1,17 @@
 -- A side added up item by item.
 use Rattle.std.proofs.Common.{◌≡◌, ℕ, suc, ◌+◌, ◌-◌, ◌<◌, ◌≤◌, ℤ, pos, Bool, true, false, cond, List, [], ◌∷◌, map, length, take, drop, get_or, Some, None, Option, sym, refl, ap, ◌∙◌, subst, ap₂, inl, inr, arith}
-use Rattle.std.proofs.Math.Seq.{drop-cons}
 use Rattle.std.proofs.lemmas.Bool.{and_from, lt-ltb, cases_lt}
-use Rattle.std.proofs.lemmas.List.{get_or_past}
+use Rattle.std.proofs.lemmas.List.{get_or_past, drop_more}
 use Rattle.std.proofs.lemmas.Option.{slice_get_within, get_or_from_slice_get, slice_get-get_or}
 use Rattle.std.proofs.ByRecursion.{All-get_or}
 use Rattle.std.specs.List.{slice_get}
+use Rattle.std.specs.Option.{unwrap_or}
 use Rattle.language.specs.declared.term.Term.{Term}
 use Rattle.language.specs.Terms.{constant, each, zero_term, plus, scaled, fits_term, all_near, near}
 use Rattle.language.specs.Tree as Tree
 use Rattle.language.specs.Comparing.{atom_term}
 use Rattle.records.specs.declared.condition.Item.{Item}
+use Rattle.records.specs.Columns.{no_item}
 use Rattle.records.specs.Tables.{stretch, item_of, side_in}
 use Rattle.terms.specs.declared.total.Total.{Total}
 use Rattle.terms.specs.Totals.{sum_of, side_from, takes, seen, taken}
@@ -19,8 +20,7 @@ use Rattle.walking.specs.Sides.{Fitting, Takable}
 -- a stretch is its first entry, and then the others
 pub cut : {X : Type 0} (xs : List X) (from to : ℕ) (x : X) → from < to → slice_get xs from ≡ Some x → stretch xs from to ≡ x ∷ stretch xs (from + 1) to
 cut xs from to x h e =
-    let l = slice_get_within xs from x e in
-    ap₂ take (let z : to - from ≡ suc (to - (from + 1)) = omega arith in z) (drop-cons xs from x l ∙ ap₂ (λ y n. y ∷ drop n xs) (get_or_from_slice_get xs from x x e) (let z : suc from ≡ from + 1 = omega arith in z))
+    ap₂ take (let z : to - from ≡ suc (to - (from + 1)) = omega arith in z) (drop_more xs from x (slice_get_within xs from x e) ∙ ap (λ y. y ∷ drop (from + 1) xs) (get_or_from_slice_get xs from x x e))
 
 module _ (items : List Item) where
   -- the first item, and then the others
@@ -29,10 +29,7 @@ module _ (items : List Item) where
   side-step from to x h e = ap (map item_of) (cut items from to x h e)
 
   pub no-item : (at : ℕ) → at < length items → slice_get items at ≡ None → ⊥
-  no-item at h e = elim items as (λ (is : List Item). at < length is → slice_get is at ≡ None → ⊥) [
-    | [] ↦ λ h e. omega arith
-    | x ∷ xs ↦ λ h e. let z : Some (get_or (x ∷ xs) at x) ≡ None = sym (slice_get-get_or (x ∷ xs) at x h) ∙ e in grind arith
-  ] h e
+  no-item at h e = let z : ◌≡◌ {A = Option Item} (Some (get_or items at no_item)) None = sym (slice_get-get_or items at no_item h) ∙ e in cc
 
   pub side-none : (from to : ℕ) → to ≤ from → side_in items from to ≡ []
   unfolding side_in
@@ -79,13 +76,16 @@ module _ (t : Total) (factor : ℤ) (u : Term) (few : t.count < 16384) (fine : n
   comes : taken t factor u ≡ Some (t.count + 1, plus (scaled factor u) (sum_of t))
   comes = ap (λ b. cond b (Some (t.count + 1, plus (scaled factor u) (sum_of t))) None) takes-it
 
-  pub one-counted : (more : Total) → seen (Some more) ≡ taken t factor u → more.count ≡ t.count + 1
+  not-full : {X : Type 0} → seen None ≡ taken t factor u → X
+  not-full e = let z : ◌≡◌ {A = Option (ℕ × Term)} None (Some (t.count + 1, plus (scaled factor u) (sum_of t))) = e ∙ comes in absurd (grind arith)
+
+  -- so the total has one item more
+  pub one-counted : (o : Option Total) → seen o ≡ taken t factor u → (unwrap_or o t).count ≡ t.count + 1
   unfolding counted
-  one-counted more e = ap counted (e ∙ comes)
+  one-counted None e = not-full e
+  one-counted (Some more) e = ap counted (e ∙ comes)
 
-  pub one-summed : (more : Total) → seen (Some more) ≡ taken t factor u → sum_of more ≡ plus (scaled factor u) (sum_of t)
+  pub one-summed : (o : Option Total) → seen o ≡ taken t factor u → sum_of (unwrap_or o t) ≡ plus (scaled factor u) (sum_of t)
   unfolding summed
-  one-summed more e = ap summed (e ∙ comes)
-
-  pub not-full : seen None ≡ taken t factor u → ⊥
-  not-full e = let z : None ≡ Some (t.count + 1, plus (scaled factor u) (sum_of t)) = e ∙ comes in grind arith
+  one-summed None e = not-full e
+  one-summed (Some more) e = ap summed (e ∙ comes)

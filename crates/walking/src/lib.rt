@@ -2,13 +2,13 @@
 #![tactic(auto)]
 
 pub mod conditions;
+pub mod debts;
 pub mod facts;
-pub mod owing;
+pub mod in_force;
 pub mod quantities;
-pub mod sides;
 
-pub use conditions::{assume_conditions, owe_conditions};
-pub use facts::assume;
-pub use owing::{owe, owe_checks, owe_rows};
+pub use conditions::Conditions;
+pub use debts::Debts;
+pub use facts::Facts;
+pub use in_force::Terms;
 pub use quantities::fresh;
-pub use sides::condition_rows_at;

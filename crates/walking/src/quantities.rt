@@ -1,5 +1,3 @@
-ghost use Rattle.std.specs.Prelude.{◌≡◌, suc};
-ghost use Rattle.language.specs.Walking.{limit};
 ghost use Rattle.walking.specs.Knowing.{Fresh};
 
 use language::{Refusal, Term};

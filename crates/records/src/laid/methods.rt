@@ -1,13 +1,13 @@
-ghost use Rattle.std.specs.Prelude.{◌≡◌, length, if◌then◌else◌, nat_lt};
+ghost use Rattle.std.specs.Prelude.{◌≡◌, length, if◌then◌else◌, is_ok, nat_lt, IfOk};
 ghost use Rattle.std.specs.List.{slice_get};
 ghost use Rattle.records.specs.Columns.{pushed, fresh};
 ghost use Rattle.records.specs.Laying.{columns_of};
 
 use super::Laid;
-use crate::condition::{Condition, Item};
-use crate::entry::{Entry, Param};
-use crate::node::Node;
+use crate::counts::Counts;
 use crate::record::Record;
+use crate::tabled::Tabled;
+use pile::Full;
 
 impl<'r> Laid<'r> {
     // Tables with nothing in them, over all the records.
@@ -17,182 +17,43 @@ impl<'r> Laid<'r> {
     {
         Laid {
             records,
-            nodes: 0,
-            conditions: 0,
-            items: 0,
-            params: 0,
-            entries: 0,
+            counts: Counts::NONE,
             owed: 0,
         }
     }
 
-    // How many nodes there are.
-    pub fn nodes(&self) -> usize
-        ensures { result ≡ length (columns_of self.now).nodes.entries }
+    // How many entries a table has.
+    pub fn count<E: Tabled>(&self) -> usize
+        ensures { result ≡ length (E.table (columns_of self.now)).entries }
     {
-        self.nodes
+        E::count(&self.counts)
     }
 
-    // The node at a position, or none past the last.
-    pub fn node(&self, at: usize) -> Option<Node>
-        ensures { result ≡ slice_get (columns_of self.now).nodes.entries at }
+    // The entry of a table at a position, or none past the last.
+    pub fn get<E: Tabled>(&self, at: usize) -> Option<E>
+        ensures { result ≡ slice_get (E.table (columns_of self.now)).entries at }
     {
-        if at < self.nodes {
-            Some(self.records[at / 4].nodes.at(at % 4))
+        if at < E::count(&self.counts) {
+            let records = &*self.records;
+            Some(E::at(&records[at / 4], at % 4))
         } else {
             None
         }
     }
 
-    // Puts a node after the others. Where there is no room, the answer is false and nothing changes.
-    pub fn push_node(&mut self, node: Node) -> bool
-        ensures value { result ≡ nat_lt (length (columns_of self.old).nodes.entries) (columns_of self.old).nodes.room }
-        ensures held { columns_of self.new ≡ (if result then record (columns_of self.old) { nodes = pushed (columns_of self.old).nodes node } else columns_of self.old) }
+    // Puts an entry after the others of its table, and gives its position. Where there is no room, that is the answer and nothing changes.
+    pub fn push<E: Tabled>(&mut self, entry: E) -> Result<usize, Full>
+        ensures value { is_ok result ≡ nat_lt (length (E.table (columns_of self.old)).entries) (E.table (columns_of self.old)).room }
+        ensures position { IfOk result (λ at. at ≡ length (E.table (columns_of self.old)).entries) }
+        ensures held { columns_of self.new ≡ (if is_ok result then E.with_table (columns_of self.old) (pushed (E.table (columns_of self.old)) entry) else columns_of self.old) }
     {
-        let at = self.nodes;
+        let at = E::count(&self.counts);
         if at / 4 >= self.records.len() {
-            return false;
+            return Err(Full);
         }
-        let mut record = self.records[at / 4];
-        record.nodes = record.nodes.with(at % 4, node);
-        self.records[at / 4] = record;
-        self.nodes = at + 1;
-        true
-    }
-
-    // How many conditions there are.
-    pub fn conditions(&self) -> usize
-        ensures { result ≡ length (columns_of self.now).conditions.entries }
-    {
-        self.conditions
-    }
-
-    // The condition at a position, or none past the last.
-    pub fn condition(&self, at: usize) -> Option<Condition>
-        ensures { result ≡ slice_get (columns_of self.now).conditions.entries at }
-    {
-        if at < self.conditions {
-            Some(self.records[at / 4].conditions.at(at % 4))
-        } else {
-            None
-        }
-    }
-
-    // Puts a condition after the others. Where there is no room, the answer is false and nothing changes.
-    pub fn push_condition(&mut self, condition: Condition) -> bool
-        ensures value { result ≡ nat_lt (length (columns_of self.old).conditions.entries) (columns_of self.old).conditions.room }
-        ensures held { columns_of self.new ≡ (if result then record (columns_of self.old) { conditions = pushed (columns_of self.old).conditions condition } else columns_of self.old) }
-    {
-        let at = self.conditions;
-        if at / 4 >= self.records.len() {
-            return false;
-        }
-        let mut record = self.records[at / 4];
-        record.conditions = record.conditions.with(at % 4, condition);
-        self.records[at / 4] = record;
-        self.conditions = at + 1;
-        true
-    }
-
-    // How many items there are.
-    pub fn items(&self) -> usize
-        ensures { result ≡ length (columns_of self.now).items.entries }
-    {
-        self.items
-    }
-
-    // The item at a position, or none past the last.
-    pub fn item(&self, at: usize) -> Option<Item>
-        ensures { result ≡ slice_get (columns_of self.now).items.entries at }
-    {
-        if at < self.items {
-            Some(self.records[at / 4].items.at(at % 4))
-        } else {
-            None
-        }
-    }
-
-    // Puts a item after the others. Where there is no room, the answer is false and nothing changes.
-    pub fn push_item(&mut self, item: Item) -> bool
-        ensures value { result ≡ nat_lt (length (columns_of self.old).items.entries) (columns_of self.old).items.room }
-        ensures held { columns_of self.new ≡ (if result then record (columns_of self.old) { items = pushed (columns_of self.old).items item } else columns_of self.old) }
-    {
-        let at = self.items;
-        if at / 4 >= self.records.len() {
-            return false;
-        }
-        let mut record = self.records[at / 4];
-        record.items = record.items.with(at % 4, item);
-        self.records[at / 4] = record;
-        self.items = at + 1;
-        true
-    }
-
-    // How many parameters there are.
-    pub fn params(&self) -> usize
-        ensures { result ≡ length (columns_of self.now).params.entries }
-    {
-        self.params
-    }
-
-    // The parameter at a position, or none past the last.
-    pub fn param(&self, at: usize) -> Option<Param>
-        ensures { result ≡ slice_get (columns_of self.now).params.entries at }
-    {
-        if at < self.params {
-            Some(self.records[at / 4].params.at(at % 4))
-        } else {
-            None
-        }
-    }
-
-    // Puts a parameter after the others. Where there is no room, the answer is false and nothing changes.
-    pub fn push_param(&mut self, param: Param) -> bool
-        ensures value { result ≡ nat_lt (length (columns_of self.old).params.entries) (columns_of self.old).params.room }
-        ensures held { columns_of self.new ≡ (if result then record (columns_of self.old) { params = pushed (columns_of self.old).params param } else columns_of self.old) }
-    {
-        let at = self.params;
-        if at / 4 >= self.records.len() {
-            return false;
-        }
-        let mut record = self.records[at / 4];
-        record.params = record.params.with(at % 4, param);
-        self.records[at / 4] = record;
-        self.params = at + 1;
-        true
-    }
-
-    // How many rules there are.
-    pub fn entries(&self) -> usize
-        ensures { result ≡ length (columns_of self.now).entries.entries }
-    {
-        self.entries
-    }
-
-    // The rule at a position, or none past the last.
-    pub fn entry(&self, at: usize) -> Option<Entry>
-        ensures { result ≡ slice_get (columns_of self.now).entries.entries at }
-    {
-        if at < self.entries {
-            Some(self.records[at / 4].entries.at(at % 4))
-        } else {
-            None
-        }
-    }
-
-    // Puts a rule after the others. Where there is no room, the answer is false and nothing changes.
-    pub fn push_entry(&mut self, entry: Entry) -> bool
-        ensures value { result ≡ nat_lt (length (columns_of self.old).entries.entries) (columns_of self.old).entries.room }
-        ensures held { columns_of self.new ≡ (if result then record (columns_of self.old) { entries = pushed (columns_of self.old).entries entry } else columns_of self.old) }
-    {
-        let at = self.entries;
-        if at / 4 >= self.records.len() {
-            return false;
-        }
-        let mut record = self.records[at / 4];
-        record.entries = record.entries.with(at % 4, entry);
-        self.records[at / 4] = record;
-        self.entries = at + 1;
-        true
+        let records = &mut *self.records;
+        entry.put(&mut records[at / 4], at % 4);
+        E::set_count(&mut self.counts, at + 1);
+        Ok(at)
     }
 }

@@ -1,13 +1,14 @@
-ghost use Rattle.std.specs.Prelude.{◌≡◌, ◌+◌, ◌*◌, ◌<◌, ◌≤◌, length};
+ghost use Rattle.std.specs.Prelude.{◌≡◌, ◌+◌, ◌*◌, ◌<◌, ◌≤◌, length, is_ok};
 ghost use Rattle.records.specs.Added.{RowPut, RowsPut, HeaderPut, PutIf};
 ghost use Rattle.records.specs.Owing.{takes_one};
 
 use super::Laid;
 use crate::owed::Owed;
 use language::Duty;
+use pile::Full;
 use rows::{MOST_FACTS, Row};
 
-// So many records hold the rows of an obligation: its facts, and its goal as the last.
+// So many records hold the rows of an obligation, its facts and its goal as the last: they lie in lent records, so they are no list.
 const ROWS_EACH: usize = 25;
 
 impl<'r> Laid<'r> {
@@ -22,17 +23,15 @@ impl<'r> Laid<'r> {
         requires { at < length self.old.records.now }
         ensures { RowPut self.old self.new at row }
     {
-        let mut record = self.records[at];
-        record.row = Some(row);
-        self.records[at] = record;
+        self.records[at].row = Some(row);
     }
 
     fn put_rows(&mut self, base: usize, rows: &[Row])
         requires { base + length rows.now ≤ length self.old.records.now }
         ensures { RowsPut self.old self.new base rows.now (length rows.now) }
     {
-        for j in 0..rows.len() {
-            self.put_row(base + j, rows[j]);
+        for (j, row) in rows.iter().enumerate() {
+            self.put_row(base + j, *row);
         }
     }
 
@@ -40,19 +39,17 @@ impl<'r> Laid<'r> {
         requires { at < length self.old.records.now }
         ensures { HeaderPut self.old self.new at owed }
     {
-        let mut record = self.records[at];
-        record.owed = Some(owed);
-        self.records[at] = record;
+        self.records[at].owed = Some(owed);
     }
 
-    // What is owed at a place joins the obligations, with the facts of its question and its goal. Where there are too many facts, or no room, the answer is false and nothing changes.
-    pub fn owe(&mut self, duty: Duty, place: usize, facts: &[Row], goal: Row) -> bool
-        ensures value { result ≡ takes_one (length self.old.records.now) self.old.owed (length facts.now) }
-        ensures put { PutIf result self.old self.new duty place facts.now goal }
+    // What is owed at a place joins the obligations, with the facts of its question and its goal. Where there are too many facts, or no room, that is the answer and nothing changes.
+    pub fn owe(&mut self, duty: Duty, place: usize, facts: &[Row], goal: Row) -> Result<(), Full>
+        ensures value { is_ok result ≡ takes_one (length self.old.records.now) self.old.owed (length facts.now) }
+        ensures put { PutIf (is_ok result) self.old self.new duty place facts.now goal }
     {
         let count = self.owed;
         if facts.len() > MOST_FACTS || count >= self.records.len() / ROWS_EACH {
-            return false;
+            return Err(Full);
         }
         let base = ROWS_EACH * count;
         self.put_rows(base, facts);
@@ -66,6 +63,6 @@ impl<'r> Laid<'r> {
             },
         );
         self.owed = count + 1;
-        true
+        Ok(())
     }
 }

@@ -3,7 +3,7 @@ ghost use Rattle.rows.specs.Limits.{small, all_small, fits};
 ghost use Rattle.rows.specs.Meaning.{coef};
 ghost use Rattle.rows.specs.Rows.{row_of};
 
-use super::{Kind, QUANTITIES, ROW_LIMIT, Row};
+use super::{Kind, ROW_LIMIT, Row};
 
 fn is_small(x: i32) -> bool
     ensures { result ≡ small x }
@@ -14,12 +14,7 @@ fn is_small(x: i32) -> bool
 fn all_small(xs: &[i32]) -> bool
     ensures { result ≡ all_small xs.now }
 {
-    for x in xs {
-        if !is_small(*x) {
-            return false;
-        }
-    }
-    true
+    xs.iter().all(|x| is_small(*x))
 }
 
 fn within_limits(coefs: &[i32], bound: i32) -> bool
@@ -44,7 +39,7 @@ impl Row {
     pub fn coef(&self, j: usize) -> i32
         ensures { result ≡ coef self.now j }
     {
-        if j < QUANTITIES { self.coefs[j] } else { 0 }
+        self.coefs.get(j).copied().unwrap_or(0)
     }
 
     pub fn coefs(&self) -> [i32; 16]

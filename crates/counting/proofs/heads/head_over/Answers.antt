@@ -1,8 +1,6 @@
-use Rattle.std.proofs.Common.{true, false, ap, ◌∙◌}
-use Rattle.std.specs.List.{slice_get}
+use Rattle.std.proofs.Common.{◌∙◌}
 use Rattle.naming.specs.Sources.{source_of}
 use Rattle.naming.proofs.Grown.{rule-here, rule-not}
-use Rattle.counting.specs.Counts.{places_of}
 use Rattle.counting.proofs.Rules.{head-not, head-here}
 use Rattle.counting.proofs.heads.head_over.Goals as goal
 
@@ -12,6 +10,5 @@ returns-in_err-rule c = let w = c.args.sheet in c.from_residual.ensures ∙ head
 pub returns : goal.returns
 returns c =
     let w = c.args.sheet in
-    let on = c.head-head.ensures in
     head-here _ _ c.nth_param.result c.nth_param-2.result _ (rule-here (source_of w) w.nodes.now c.args.at c.in_ok-rule.rule c.in_ok-rule.ensures)
-    (c.nth_param.ensures ∙ ap (λ ps. slice_get (places_of true ps) 4) on) (c.nth_param-2.ensures ∙ ap (λ ps. slice_get (places_of false ps) 8) on) c.earlier.ensures
+    c.nth_param.ensures c.nth_param-2.ensures c.earlier.ensures

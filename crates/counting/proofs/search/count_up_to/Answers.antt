@@ -1,23 +1,17 @@
-use Rattle.std.proofs.Common.{◌≡◌, ◌<◌, None, length, sym, ap, ◌∙◌, arith}
-use Rattle.std.proofs.lemmas.List.{take_all}
-use Rattle.std.proofs.lemmas.List.Sums.{count_by_more_yes, count_by_more_no}
+use Rattle.std.proofs.Common.{rules, ℕ, ap, ◌∙◌, arith}
+use Rattle.std.proofs.lemmas.Iterator.{YieldsList-from_range}
+use Rattle.std.proofs.lemmas.Iterator.Consumers.{YieldsList-from_filter, count_from_yields_List}
+use Rattle.std.proofs.lemmas.List.Sums.{length-filter}
+use Rattle.std.specs.Prelude.{count_by}
+use Rattle.std.specs.List.{range_with_len}
 use Rattle.records.specs.Laying.{columns_of}
-use Rattle.counting.specs.Counts.{is_up_to, placed_up_to}
-use Rattle.counting.specs.Places.{places_in}
+use Rattle.counting.specs.Counts.{is_up_to, placed_at}
+use Rattle.counting.proofs.Places.{placed_all}
 use Rattle.counting.proofs.search.count_up_to.Goals as goal
-use Rattle.counting.proofs.search.count_up_to.Goals.{then-is_up_to, else-is_up_to}
-
-pub loop-at-preserved : goal.loop-at-preserved
-loop-at-preserved c =
-    let xs = places_in (columns_of c.args.tables.now) c.args.table in let at = c.loop-at.at in let p = is_up_to c.args.place in
-    let h : at < length xs = omega arith in
-    elim c.if-is_up_to.branch [
-      | then-is_up_to w ↦ let k = count_by_more_yes p xs at None h (ap p (sym c.place.ensures) ∙ sym w.if-is_up_to.ensures) in (omega (arith, w.count-is, c.loop-at.invariant.0), omega (arith, w.count-is, c.loop-at.invariant.1))
-      | else-is_up_to w ↦ let k = count_by_more_no p xs at None h (ap p (sym c.place.ensures) ∙ sym w.if-is_up_to.ensures) in (omega (arith, w.count-is, c.loop-at.invariant.0), omega (arith, w.count-is, c.loop-at.invariant.1))
-    ]
 
 pub returns : goal.returns
-returns c =
-    let xs = places_in (columns_of c.args.tables.now) c.args.table in
-    let e : c.loop-at.at ≡ length xs = omega arith in
-    c.loop-at.invariant.0 ∙ ap (λ ys. placed_up_to (λ place. place) ys c.args.place) (take_all c.loop-at.at xs (omega (arith, e)))
+returns g c =
+    let xs = (g.E.Tabled.table (columns_of c.args.tables.now)).entries in let n = c.count.result in
+    let test = λ (i : ℕ). is_up_to c.args.place (placed_at g.E.Placed.place xs i) in
+    count_from_yields_List _ c.count-2.result c.count-2.ensures.ran (YieldsList-from_filter _ test (YieldsList-from_range 0 n n c.filter.ensures.source (omega arith)) c.filter.ensures.closure (λ x b q k. search rules))
+    ∙ length-filter test (range_with_len 0 n) ∙ ap (λ k. count_by test (range_with_len 0 k)) c.count.ensures ∙ placed_all g.E.Placed.place c.args.place xs

@@ -1,18 +1,11 @@
-use Rattle.std.proofs.Common.{◌+◌, ◌&&◌, drop, sym, ap, ◌∙◌, arith}
-use Rattle.std.proofs.lemmas.Bool.{lt-leb, le-leb}
-use Rattle.domains.specs.Linear.{numbers}
-use Rattle.domains.proofs.Weighing.{numbers_more, numbers-all}
+use Rattle.std.proofs.Common.{leb, sym, ◌∙◌, rules}
+use borrow.Author.Tests.{tests}
+use Rattle.std.proofs.lemmas.Iterator.{YieldsList-from_slice}
+use Rattle.std.proofs.lemmas.Iterator.Search.{all_from_yields_List}
+use Rattle.domains.proofs.Weighing.{numbers_is}
 use Rattle.domains.proofs.linear.numbers_fit.Goals as goal
 
-pub returns-then-m-gt-MOST_TIMES : goal.returns-then-m-gt-MOST_TIMES
-returns-then-m-gt-MOST_TIMES c =
-    let xs = c.args.certificate.now in let i = c.loop-m.m-index in
-    sym (c.loop-m.invariant ∙ numbers_more xs i c.loop-m-test.true ∙ ap (λ b. b && numbers (drop (i + 1) xs)) (lt-leb _ _ (omega arith)))
-
-pub loop-m-preserved : goal.loop-m-preserved
-loop-m-preserved c =
-    let xs = c.args.certificate.now in let i = c.loop-m.m-index in
-    c.loop-m.invariant ∙ numbers_more xs i c.loop-m-test.true ∙ ap (λ b. b && numbers (drop (i + 1) xs)) (le-leb _ _ (omega arith))
-
 pub returns : goal.returns
-returns c = sym (c.loop-m.invariant ∙ numbers-all _ _ c.loop-m-test.false)
+returns c =
+    all_from_yields_List (λ m. leb m 1000000) _ _ _ c.all.ensures.ran (YieldsList-from_slice c.args.certificate.now cc) (λ x b q k. search (rules, tests))
+    ∙ sym (numbers_is c.args.certificate.now)

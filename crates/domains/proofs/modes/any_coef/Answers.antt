@@ -1,26 +1,19 @@
-use Rattle.std.proofs.Common.{◌≡◌, ◌+◌, true, false, not, ◌||◌, drop, sym, ap, ◌∙◌, w32, rules}
-use Rattle.std.proofs.lemmas.List.{at_drop_all}
+use Rattle.std.proofs.Common.{◌≡◌, eqb, not, sym, ap, ◌∙◌, w32, of_z, rules}
+use Rattle.std.proofs.lemmas.Iterator.{YieldsList-from_slice}
+use Rattle.std.proofs.lemmas.Iterator.Search.{any_from_yields_List}
+use Rattle.std.proofs.lemmas.Int.{ints}
 use Rattle.ints.specs.Tests.{is_zero}
-use Rattle.ints.proofs.Zeros.{not-zero, is-zero}
+use Rattle.ints.proofs.Zeros.{zero_test}
 use Rattle.rows.specs.Meaning.{coef}
-use Rattle.rows.proofs.Items.{item-more}
-use Rattle.domains.specs.Modes.{occurs_in}
+use Rattle.rows.proofs.Limiting.{coef-near}
+use Rattle.domains.proofs.Trying.{occurs_some}
 use Rattle.domains.proofs.modes.any_coef.Goals as goal
 
-pub returns-then-coef-ne0 : goal.returns-then-coef-ne0
-unfolding occurs_in
-returns-then-coef-ne0 c =
-    let j = c.args.j in let xs = c.args.rows.now in let i = c.loop-row.row-index in let r = c.row-item.result in
-    let z : is_zero (coef r j) ≡ false = ap is_zero (sym c.coef.ensures) ∙ not-zero w32 c.coef.result c.if-coef-ne0.true in
-    sym (c.loop-row.invariant ∙ item-more (occurs_in j) xs i r c.loop-row-test.true c.row-item.is ∙ ap (λ b. not b || occurs_in j (drop (i + 1) xs)) z)
-
-pub loop-row-preserved : goal.loop-row-preserved
-unfolding occurs_in
-loop-row-preserved c =
-    let j = c.args.j in let xs = c.args.rows.now in let i = c.loop-row.row-index in let r = c.row-item.result in
-    let z : is_zero (coef r j) ≡ true = ap is_zero (sym c.coef.ensures) ∙ is-zero w32 c.coef.result (search rules) c.if-coef-ne0.false in
-    c.loop-row.invariant ∙ item-more (occurs_in j) xs i r c.loop-row-test.true c.row-item.is ∙ ap (λ b. not b || occurs_in j (drop (i + 1) xs)) z
-
 pub returns : goal.returns
-unfolding occurs_in
-returns c = sym (c.loop-row.invariant ∙ at_drop_all (occurs_in c.args.j) _ _ c.loop-row-test.false)
+returns c =
+    any_from_yields_List (λ r. not (is_zero (coef r c.args.j))) _ _ _ c.any.ensures.ran (YieldsList-from_slice c.args.rows.now cc)
+    (λ x b q k.
+    let e : b ≡ not (eqb (of_z w32 (coef x.now c.args.j)) 0) = search rules in
+    let n = coef-near x.now c.args.j in
+    (search rules, e ∙ ap not (zero_test w32 (coef x.now c.args.j) (search (rules, ints)))))
+    ∙ sym (occurs_some c.args.j c.args.rows.now)

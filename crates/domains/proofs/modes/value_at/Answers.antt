@@ -1,4 +1,4 @@
-use Rattle.std.proofs.Common.{◌≡◌, ◌≤◌, get_or, pos, ◌*ℤ◌, refl, ap, ◌∙◌, ap₂, arith, w32, rules}
+use Rattle.std.proofs.Common.{◌≡◌, ◌≤◌, get_or, pos, ◌*ℤ◌, refl, ◌∙◌, ap₂, arith, w32, rules}
 use lib.IntN.{*ℤ_comm}
 use Rattle.std.proofs.lemmas.Int.{ints, to_z-of_z}
 use Rattle.ints.specs.Sums.{sum_to, Near}
@@ -39,10 +39,3 @@ loop-j-preserved c =
     let v = c.loop-j.invariant in
     let s = sum_more (λ k. coef c.args.row.now k *ℤ at c.args.point.now k) c.loop-j.j in
     (omega (arith, ints), (omega (arith, ints), omega (arith, ints)))
-
-pub returns : goal.returns
-returns c =
-    let i : c.loop-j.j ≡ 16 = omega arith in
-    let e = ap (λ n. sum_to (λ k. coef c.args.row.now k *ℤ at c.args.point.now k) n) i in
-    let v = c.loop-j.invariant.0 in
-    omega (arith, ints)

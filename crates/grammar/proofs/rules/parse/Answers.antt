@@ -1,17 +1,17 @@
-use Rattle.std.proofs.Common.{refl, rules}
-use Rattle.grammar.proofs.Lawfully.{only-sheet, no-sheet}
+use Rattle.std.proofs.Common.{refl, ap, ◌∙◌, rules}
+use Rattle.std.proofs.lemmas.Result.{err_from_is_err_and}
+use Rattle.grammar.proofs.Lawfully.{only-sheet, refused}
 use Rattle.grammar.proofs.Wholes.{sheeted, faulted}
+use Rattle.std.proofs.Common.{Err}
 use Rattle.grammar.proofs.rules.parse.Goals as goal
 
-pub returns-then-nodes-tokens : goal.returns-then-nodes-tokens
-returns-then-nodes-tokens c = record { parsed = record { said = c.if-nodes-tokens.true }; law = tt }
+pub returns : goal.returns
+returns c =
+    let h = sheeted _ c.rules.new.self _ (search rules) refl c.in_ok-rules.ensures.so in
+    record { parsed = record { said = (c.if-nodes-source.false, h) }; law = only-sheet _ _ _ _ h }
 
-pub returns-in-Ok : goal.returns-in-Ok
-returns-in-Ok c =
-    let h = sheeted _ c.rules.new.self _ (search rules) refl c.in-Ok.ensures.so in
-    record { parsed = record { said = (c.if-nodes-tokens.false, h) }; law = only-sheet _ _ _ _ h }
-
-pub returns-in-Err : goal.returns-in-Err
-returns-in-Err c =
-    let h = faulted _ _ refl c.in-Err.ensures.so in
-    record { parsed = record { said = (c.if-nodes-tokens.false, h) }; law = no-sheet _ _ _ h }
+pub returns-in_err-rules : goal.returns-in_err-rules
+returns-in_err-rules c =
+    let b = err_from_is_err_and c.from_residual.result c.from_residual.ensures.1 in
+    let p = refused c.from_residual.result c.args.source.tokens.now c.args.source.end c.in_err-rules.field-0.0.place _ _ (b.1 ∙ ap Err b.2) c.if-nodes-source.false (faulted _ _ refl c.in_err-rules.ensures.so) in
+    record { parsed = p.0; law = p.1 }

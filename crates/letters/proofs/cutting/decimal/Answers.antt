@@ -1,14 +1,9 @@
-use Rattle.std.proofs.Common.{ap, ◌∙◌, arith}
-use Rattle.std.proofs.lemmas.List.{take_all}
-use Rattle.std.specs.Str.Parse.{digits_value}
+use Rattle.std.proofs.Common.{arith}
 use Rattle.letters.proofs.Running.{digit-range, value-front, value-step}
 use Rattle.letters.proofs.cutting.decimal.Goals as goal
 
 pub overflow_mul-number : goal.overflow_mul-number
 overflow_mul-number c = let h = value-front c.args.digits.now c.loop-digit.digit-index (omega arith) c.requires.all in omega (arith, c.loop-digit.invariant)
-
-pub overflow_sub-digit : goal.overflow_sub-digit
-overflow_sub-digit c = (digit-range c.args.digits.now c.loop-digit.digit-index c.loop-digit-test.true c.requires.all).0
 
 pub overflow_add-number : goal.overflow_add-number
 overflow_add-number c =
@@ -18,6 +13,3 @@ overflow_add-number c =
 
 pub loop-digit-preserved : goal.loop-digit-preserved
 loop-digit-preserved c = let s = value-step c.args.digits.now c.loop-digit.digit-index c.loop-digit-test.true c.requires.all in omega (arith, c.loop-digit.invariant)
-
-pub returns : goal.returns
-returns c = c.loop-digit.invariant ∙ ap (digits_value 10) (take_all c.loop-digit.digit-index c.args.digits.now c.loop-digit-test.false)

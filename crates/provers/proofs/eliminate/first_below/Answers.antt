@@ -1,28 +1,26 @@
-use Rattle.std.proofs.Common.{◌≡◌, ◌+◌, true, false, cond, get_or, drop, pos, Some, sym, refl, ap, ◌∙◌, arith}
+use Rattle.std.proofs.Common.{◌≡◌, pos, refl, w32, to_z, of_z, ap, sym, ◌∙◌, rules}
+use Rattle.std.specs.Option.{option_map}
+use Rattle.std.specs.List.{find}
+use Rattle.std.proofs.lemmas.Int.{to_z-of_z}
 use lib.Signed.{lt_z}
-use Rattle.std.proofs.lemmas.List.{at_drop_all, at_drop_more}
-use Rattle.std.proofs.lemmas.Int.{ints}
-use Rattle.provers.specs.Elimination.{first_below}
-use Rattle.provers.proofs.Pushing.{blank}
+use Rattle.std.proofs.lemmas.Iterator.{YieldsList-from_slice}
+use Rattle.std.proofs.lemmas.Iterator.Search.{find_from_yields_List}
+use Rattle.provers.proofs.Pushing.{first_is}
 use Rattle.provers.proofs.eliminate.first_below.Goals as goal
+use Rattle.provers.proofs.eliminate.first_below.Goals.{After-find}
 
-pub loop-row-init : goal.loop-row-init
-loop-row-init c = refl
+found : (c : After-find) → option_map (λ x. x.now) c.find.result ≡ find (λ r. lt_z r.bound (pos 0)) c.args.rows.now
+found c =
+    find_from_yields_List {v = λ x. x.now} (λ r. lt_z r.bound (pos 0)) _ _ c.find.result c.find.ensures.ran (YieldsList-from_slice c.args.rows.now cc)
+    (λ x b q k.
+    let f : b ≡ lt_z (to_z w32 (of_z w32 x.now.bound)) (pos 0) = search rules in
+    (refl, f ∙ ap (λ z. lt_z z (pos 0)) (to_z-of_z w32 x.now.bound (search rules))))
 
-pub returns-then-row-lt0 : goal.returns-then-row-lt0
-unfolding first_below
-returns-then-row-lt0 c =
-    let xs = c.args.rows.now in let i = c.loop-row.row-index in let r = get_or xs i blank in
-    let z : lt_z r.bound (pos 0) ≡ true = grind (arith, ints) in
-    sym (c.loop-row.invariant ∙ at_drop_more first_below xs i blank c.loop-row-test.true ∙ ap (λ b. cond b (Some r.times) (first_below (drop (i + 1) xs))) z)
-
-pub loop-row-preserved : goal.loop-row-preserved
-unfolding first_below
-loop-row-preserved c =
-    let xs = c.args.rows.now in let i = c.loop-row.row-index in let r = get_or xs i blank in
-    let z : lt_z r.bound (pos 0) ≡ false = grind (arith, ints) in
-    c.loop-row.invariant ∙ at_drop_more first_below xs i blank c.loop-row-test.true ∙ ap (λ b. cond b (Some r.times) (first_below (drop (i + 1) xs))) z
+pub returns-in_err-row : goal.returns-in_err-row
+returns-in_err-row c =
+    let w = c.in_err-row.was in
+    c.from_residual.ensures ∙ ap (λ o. option_map (λ r. r.times) (option_map (λ x. x.now) o)) (sym c.in_err-row.was) ∙ ap (option_map (λ r. r.times)) (found (goal.at.returns-in_err-row c).After-find) ∙ first_is c.args.rows.now
 
 pub returns : goal.returns
-unfolding first_below
-returns c = sym (c.loop-row.invariant ∙ at_drop_all first_below _ _ c.loop-row-test.false)
+returns c =
+    ap (λ o. option_map (λ r. r.times) (option_map (λ x. x.now) o)) (sym c.in_ok-row.was) ∙ ap (option_map (λ r. r.times)) (found (goal.at.returns c).After-find) ∙ first_is c.args.rows.now

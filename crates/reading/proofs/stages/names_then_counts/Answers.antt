@@ -38,5 +38,5 @@ returns-in-None c =
     let rules = Resolving.sheet_of text (sheet_in text ts ns) in record {
       named = sym c.in_default.ensures;
       counted = sym (same-fault w text ts ns same _ (columns_of t) m c.in-None.ensures.value);
-      stand = subst (λ (rs : List Record). Stand rs c.entries.result rules) (sym (c.records-in-None-1.given.1.1 lent)) (stands t c.entries.result rules m.stand c.entries.ensures);
+      stand = subst (λ (rs : List Record). Stand rs c.count.result rules) (sym (c.records-in-None-1.given.1.1 lent)) (stands t c.count.result rules m.stand c.count.ensures);
     }

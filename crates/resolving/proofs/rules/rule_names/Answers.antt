@@ -1,3 +1,4 @@
+use Rattle.std.specs.Prelude.{is_ok}
 use Rattle.std.proofs.Common.{◌≡◌, ℕ, ◌++◌, map, length, sym, refl, ap, ◌∙◌, arith}
 use Rattle.std.proofs.lemmas.List.{length_push}
 use Rattle.grammar.specs.Raw as Raw
@@ -28,7 +29,7 @@ loop-at-preserved c =
       | in-Some v ↦
           let k = v.in-Some.ruled in let q = v.push in
           let here = rules-next s ns at ∙ ap (λ xs. rules_to s at ns ++ xs) (rule-here s ns at k v.in-Some.ensures) in
-          let p = pushed (entries c.loop-at.names) _ k.name q.result (room c.loop-at.names) q.ensures.value (omega (arith, i.1, i.2, c.fall_back.ensures.room, c.requires, w.few, c.loop-at-test.true)) q.ensures.held in
+          let p = pushed (entries c.loop-at.names) _ k.name (is_ok q.result) (room c.loop-at.names) q.ensures.value (omega (arith, i.1, i.2, c.fall_back.ensures.room, c.requires, w.few, c.loop-at-test.true)) q.ensures.held in
           let e = ap length p ∙ length_push (entries c.loop-at.names) k.name in (
             ap (λ (x : Pile ℕ). tokens_of w (entries x)) v.names-is ∙ name-joins (look_of s) (entries c.loop-at.names) _ (rules_to s at ns) _ (rule_by w at k) k.name i.0 p here refl,
             omega (arith, i.1, ap (λ (x : Pile ℕ). length (entries x)) v.names-is),

@@ -1,4 +1,4 @@
-use Rattle.std.proofs.Common.{◌+◌, List, take, sym, subst, arith}
+use Rattle.std.proofs.Common.{◌+◌, List, take, sym, subst}
 use Rattle.letters.specs.declared.token.Token.{Token}
 use Rattle.letters.proofs.Running.{run-passes}
 use Rattle.grammar.specs.Parsers.{look_in}
@@ -7,16 +7,11 @@ use Rattle.showing.specs.Probes.{elsewhere, Apart, probed, Tells}
 use Rattle.showing.proofs.Probing.{fronted}
 use Rattle.showing.proofs.probes.expected.Goals as goal
 
-pub each_kind-requires : goal.each_kind-requires
-each_kind-requires c =
+pub invariant_of-probe-clause-apart : goal.invariant_of-probe-clause-apart
+invariant_of-probe-clause-apart c =
     let e = fronted c.args.tokens.now _ c.copy_front.new.scratch c.number_at-at.result c.number_at-at.ensures.within c.copy_front.ensures in
-    record {
-      scratch = omega arith;
-      nodes = c.if-at-nodes.false;
-      place = omega arith;
-      apart = subst (λ (ts : List Token). Apart ts c.args.place) (sym e)
-          (subst (λ n. Apart (take n c.args.tokens.now) c.args.place) (sym c.number_at-at.ensures.told) (run-passes (elsewhere c.args.place) c.args.tokens.now));
-    }
+    subst (λ (ts : List Token). Apart ts c.args.place) (sym e)
+    (subst (λ n. Apart (take n c.args.tokens.now) c.args.place) (sym c.number_at-at.ensures.told) (run-passes (elsewhere c.args.place) c.args.tokens.now))
 
 pub returns : goal.returns
 returns c k =

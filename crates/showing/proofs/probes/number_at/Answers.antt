@@ -1,22 +1,21 @@
-use Rattle.std.proofs.Common.{arith}
-use Rattle.std.proofs.lemmas.List.Sums.{prefix_len-drop_yes, prefix_len-drop_no, prefix_len-drop_all}
-use Rattle.std.proofs.lemmas.Bool.{eq-eqb, ne_eqb, not_from_true, not_from_false}
-use Rattle.letters.specs.declared.kind.Kind.TheVariants.{Name}
-use Rattle.letters.specs.Tokens.{token_of}
-use Rattle.showing.specs.Probes.{elsewhere}
+use Rattle.std.proofs.Common.{rules, tests, ◌≡◌, ℕ, ◌≤◌, Option, length, sym, ap, ◌∙◌, subst}
+use Rattle.std.specs.Option.{unwrap_or}
+use Rattle.std.proofs.lemmas.Iterator.{YieldsList-from_slice}
+use Rattle.std.proofs.lemmas.Iterator.Search.{position_from_yields_List}
+use Rattle.std.proofs.lemmas.List.Sums.{prefix_len-le-length}
+use Rattle.showing.specs.Probes.{elsewhere, number_at}
+use Rattle.showing.proofs.Placing.{here, found_or_end}
 use Rattle.showing.proofs.probes.number_at.Goals as goal
 
-pub loop-at-preserved : goal.loop-at-preserved
-loop-at-preserved c =
-    let e = prefix_len-drop_yes (elsewhere c.args.place) c.args.tokens.now c.loop-at.at (token_of Name 0 0 0) c.loop-at-test.true (not_from_false _ (ne_eqb _ _ c.if-tokens-at.true)) in
-    (omega arith, omega arith)
+told : (c : goal.After-unwrap_or) → c.unwrap_or.result ≡ number_at c.args.tokens.now c.args.place
+told c =
+    let ts = c.args.tokens.now in
+    c.unwrap_or.ensures
+    ∙ ap (λ (o : Option ℕ). unwrap_or o (length ts)) (position_from_yields_List (here c.args.place) _ _ c.position.result c.position.ensures.ran (YieldsList-from_slice ts (cc)) (λ x b q k. search (rules, tests)))
+    ∙ found_or_end c.args.place ts
 
-pub returns-else-tokens-at : goal.returns-else-tokens-at
-returns-else-tokens-at c =
-    let e = prefix_len-drop_no (elsewhere c.args.place) c.args.tokens.now c.loop-at.at (token_of Name 0 0 0) c.loop-at-test.true (not_from_true _ (eq-eqb _ _ c.if-tokens-at.false)) in
-    record { told = omega arith; within = omega arith }
+pub returns-clause-told : goal.returns-clause-told
+returns-clause-told c = told c
 
-pub returns-after-loop-at : goal.returns-after-loop-at
-returns-after-loop-at c =
-    let e = prefix_len-drop_all (elsewhere c.args.place) c.args.tokens.now c.loop-at.at c.loop-at-test.false in
-    record { told = omega arith; within = omega arith }
+pub returns-clause-within : goal.returns-clause-within
+returns-clause-within c = subst (λ (n : ℕ). n ≤ length c.args.tokens.now) (sym (told c)) (prefix_len-le-length (elsewhere c.args.place) c.args.tokens.now)

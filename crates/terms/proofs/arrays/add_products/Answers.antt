@@ -1,13 +1,10 @@
-use Rattle.std.proofs.Common.{get_or, ℤ, pos, ◌+ℤ◌, ◌*ℤ◌, refl, ap, ◌∙◌, ap₂, arith, w32, w64, to_z, of_z, rules}
+use Rattle.std.proofs.Common.{get_or, ℤ, pos, ◌+ℤ◌, ◌*ℤ◌, ap, ◌∙◌, ap₂, arith, w32, w64, to_z, of_z, rules}
 use Rattle.std.proofs.lemmas.Int.{to_z-of_z}
 use Rattle.language.specs.Terms.{each}
 use Rattle.terms.specs.Narrow.{within, room}
 use Rattle.terms.proofs.Bounds.{within-from, within-at}
-use Rattle.terms.proofs.Filling.{filled_none, filled_more, filled-all}
+use Rattle.terms.proofs.Filling.{filled_more, filled-all}
 use Rattle.terms.proofs.arrays.add_products.Goals as goal
-
-pub loop-j-init : goal.loop-j-init
-loop-j-init c = filled_none _ _ refl
 
 pub loop-j-preserved : goal.loop-j-preserved
 loop-j-preserved c =

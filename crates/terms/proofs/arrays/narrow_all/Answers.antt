@@ -1,11 +1,8 @@
-use Rattle.std.proofs.Common.{◌≡◌, cond, length, get_or, ℤ, pos, Some, None, refl, ap, ◌∙◌, arith, w32, w64, to_z, of_z, rules}
+use Rattle.std.proofs.Common.{◌≡◌, cond, length, get_or, ℤ, pos, Some, None, ap, ◌∙◌, arith, w32, w64, to_z, of_z, rules}
 use Rattle.std.proofs.lemmas.Int.{to_z-of_z}
 use Rattle.terms.specs.Narrow.{within, all_within}
-use Rattle.terms.proofs.Holding.{held_none, held-broken, held_more, held_all}
+use Rattle.terms.proofs.Holding.{held-broken, held_more, held_all}
 use Rattle.terms.proofs.arrays.narrow_all.Goals as goal
-
-pub loop-j-init : goal.loop-j-init
-loop-j-init c = held_none _ _ _ refl
 
 pub returns-in_err-out : goal.returns-in_err-out
 returns-in_err-out c =

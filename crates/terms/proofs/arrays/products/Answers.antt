@@ -1,19 +1,13 @@
-use Rattle.std.proofs.Common.{get_or, ℤ, pos, ◌*ℤ◌, refl, ap, ◌∙◌, arith, w32, w64, to_z, of_z, rules}
+use Rattle.std.proofs.Common.{rules, ◌≡◌, get_or, pos, ◌*ℤ◌, ◌∙◌, ap₂, w32, to_z, of_z}
 use Rattle.std.proofs.lemmas.Int.{to_z-of_z}
+use Rattle.ints.proofs.Filling.{made_by}
 use Rattle.language.specs.Terms.{each}
-use Rattle.terms.proofs.Filling.{filled_none, filled_more, filled-all}
 use Rattle.terms.proofs.arrays.products.Goals as goal
 
-pub loop-j-init : goal.loop-j-init
-loop-j-init c = filled_none _ _ refl
-
-pub loop-j-preserved : goal.loop-j-preserved
-loop-j-preserved c =
-    let xs = c.args.xs.now in let j = c.loop-j.j in
-    filled_more _ c.loop-j.out j c.loop-j.invariant _ (omega arith)
-    (to_z-of_z w64 c.product.result (search rules) ∙ c.product.ensures ∙ ap (λ (x : ℤ). to_z w32 (of_z w32 c.args.k) *ℤ x) (to_z-of_z w32 (get_or xs j (pos 0)) (search rules)))
-
 pub returns : goal.returns
+unfolding each
 returns c =
-    filled-all _ c.loop-j.out c.loop-j.j c.loop-j.invariant (omega arith)
-    ∙ ap (λ (k : ℤ). each (λ j. k *ℤ get_or c.args.xs.now j (pos 0))) (to_z-of_z w32 c.args.k c.ranges.k)
+    let xs = c.args.xs.now in
+    made_by _ _ (λ j. c.args.k *ℤ get_or xs j (pos 0)) 16 (λ i y q l k.
+    let e : y ≡ to_z w32 (of_z w32 c.args.k) *ℤ to_z w32 (of_z w32 (get_or xs i (pos 0))) = search rules in
+    (search rules, e ∙ ap₂ ◌*ℤ◌ (to_z-of_z w32 c.args.k c.ranges.k) (to_z-of_z w32 (get_or xs i (pos 0)) (search rules)))) c.from_fn.result (pos 0) c.from_fn.ensures.items

@@ -1,4 +1,4 @@
-use Rattle.std.proofs.Common.{◌≡◌, List, ℤ, ◌-ℤ◌, ◌∙◌, ap₂, arith, w32, w64, SFits, to_z, of_z, rules}
+use Rattle.std.proofs.Common.{◌≡◌, pos, ◌-ℤ◌, ap, ◌∙◌, arith}
 use Rattle.std.proofs.lemmas.Int.{ints}
 use Rattle.rows.specs.declared.row.Kind.TheVariants.{Unequal}
 use Rattle.rows.specs.Rows.{row_of}
@@ -7,11 +7,8 @@ use Rattle.language.specs.Comparing.{unequal}
 use Rattle.terms.proofs.comparing.unequal.Goals as goal
 
 pub returns : goal.returns
-unfolding unequal minus
+unfolding unequal
 returns c =
-    let t : SFits w32 c.args.t.now.constant = search rules in
-    let u : SFits w32 c.args.u.now.constant = search rules in
-    let d : SFits w64 c.difference-room.result = search rules in
-    let e = c.difference-room.ensures in
-    let b : to_z w64 (of_z w64 c.difference-room.result) ≡ c.args.u.now.constant -ℤ c.args.t.now.constant = omega (arith, ints) in
-    c.row.ensures ∙ ap₂ (λ (cs : List ℤ) (z : ℤ). row_of cs z Unequal) c.differences.ensures b
+    let t = c.args.t.now in let u = c.args.u.now in
+    let e : (u.constant -ℤ t.constant) -ℤ pos 0 ≡ u.constant -ℤ t.constant = omega (arith, ints) in
+    c.compared.ensures ∙ ap (λ z. row_of (minus t u).coefs z Unequal) e

@@ -10,4 +10,4 @@ abbrev pub invariant-loop-self : goal.invariant-loop-self
 invariant-loop-self l = Ran SameCount Any (chain (is_a Comma) param_on) (tt {0}) (tt {0}) (held l.initial.self) (held l.self)
 
 abbrev pub decreases-loop-self : goal.decreases-loop-self
-decreases-loop-self l = length l.self.tokens.now - l.self.at
+decreases-loop-self l = length l.self.source.tokens.now - l.self.at

@@ -1,10 +1,10 @@
-use Rattle.std.proofs.Common.{ℕ, List, length, Err, Result, sym, ap, ◌∙◌, subst, arith}
+use Rattle.std.proofs.Common.{List, length, Err, Result, sym, ap, ◌∙◌, subst}
 use Rattle.std.proofs.lemmas.Result.{err_from_is_err_and}
+use Rattle.grammar.specs.declared.misplaced.Misplaced.{Misplaced}
 use Rattle.grammar.specs.declared.node.Node.{Node}
 use Rattle.grammar.specs.Held.{held}
 use Rattle.grammar.specs.Parsed.{RuledSo}
 use Rattle.grammar.specs.Trees.{rules_to}
-use Rattle.grammar.proofs.Rooms.{paid-up}
 use Rattle.grammar.proofs.Ruling.{ruling-start, ruled-on, ruled-err, ruled-end, ruled-not}
 use Rattle.grammar.proofs.parser.Parser.rules.Goals as goal
 
@@ -12,21 +12,15 @@ pub loop-self-init : goal.loop-self-init
 unfolding rules_to
 loop-self-init c = ruling-start _ (ap (λ (ns : List Node). rules_to (held c.args.self.now).source (length ns) ns) c.requires)
 
-pub loop-self-smaller : goal.loop-self-smaller
-loop-self-smaller c = omega (arith, c.bump-token.ensures.bumped.size, c.bump-token.ensures.bumped.at, c.bump-token.ensures.bumped.inside, c.in_ok-rule.ensures.went.size, c.in_ok-rule.ensures.went.ahead, c.push.ensures.size, c.push.ensures.at)
-
 pub loop-self-preserved : goal.loop-self-preserved
 loop-self-preserved c = ruled-on c.loop-self.invariant c.loop-self-test.ensures.told c.bump-token.ensures.token c.bump-token.ensures.bumped c.in_ok-rule.ensures.went c.push.ensures
-
-pub push-requires : goal.push-requires
-push-requires c = omega (arith, paid-up c.loop-self.self, c.bump-token.ensures.bumped.at, c.bump-token.ensures.bumped.count, c.in_ok-rule.ensures.paid)
 
 pub returns-in_err-rule : goal.returns-in_err-rule
 returns-in_err-rule c =
     let b = err_from_is_err_and c.from_residual.result c.from_residual.ensures.1 in
     record {
       lender = c.in_err-rule.ensures.went.lender ∙ c.bump-token.ensures.bumped.lender ∙ c.loop-self.invariant.lender;
-      so = subst (λ (r : Result (Unit {0}) ℕ). RuledSo r (held c.args.self.now) (held c.rule.new.self)) (sym (b.1 ∙ ap Err b.2))
+      so = subst (λ (r : Result (Unit {0}) Misplaced). RuledSo r (held c.args.self.now) (held c.rule.new.self)) (sym (b.1 ∙ ap Err b.2))
           (ruled-err c.loop-self.invariant c.loop-self-test.ensures.told c.bump-token.ensures.token c.bump-token.ensures.bumped c.in_err-rule.ensures.went);
     }
 

@@ -12,14 +12,14 @@ returns-in_err-params c =
     let w = c.args.self in let n = count_args (args_at (source_of w) c.args.top w.nodes.now c.args.at) in
     λ inside. ap (λ o. call_faults o c.args.token n inside) (params-named w.text.now (rules_of w) c.args.token ∙ c.in_err-params.ensures) ∙ ap (λ o. called w o c.args.token inside) (sym c.from_residual.ensures)
 
-pub returns-then-count_left-count_args : goal.returns-then-count_left-count_args
-returns-then-count_left-count_args c =
+pub returns-then-number-count_args : goal.returns-then-number-count_args
+returns-then-number-count_args c =
     let w = c.args.self in let n = count_args (args_at (source_of w) c.args.top w.nodes.now c.args.at) in
     λ inside. ap (λ o. call_faults o c.args.token n inside) (params-named w.text.now (rules_of w) c.args.token ∙ c.in_ok-params.ensures)
-    ∙ call_fits (head_params w c.in_ok-params.params) c.args.token n inside (sym (ap length c.head.ensures) ∙ sym c.count_left.ensures ∙ c.if-count_left-count_args.true ∙ c.count_args.ensures)
+    ∙ call_fits (head_params w c.in_ok-params.params) c.args.token n inside (sym (ap length c.params.ensures.params) ∙ sym c.number.ensures ∙ c.if-number-count_args.true ∙ c.count_args.ensures)
 
-pub returns-else-count_left-count_args : goal.returns-else-count_left-count_args
-returns-else-count_left-count_args c =
+pub returns-else-number-count_args : goal.returns-else-number-count_args
+returns-else-number-count_args c =
     let w = c.args.self in let n = count_args (args_at (source_of w) c.args.top w.nodes.now c.args.at) in
     λ inside. ap (λ o. call_faults o c.args.token n inside) (params-named w.text.now (rules_of w) c.args.token ∙ c.in_ok-params.ensures)
-    ∙ call-wrong (head_params w c.in_ok-params.params) c.args.token n inside (ne_eqb _ _ (λ e. c.if-count_left-count_args.false (c.count_left.ensures ∙ ap length c.head.ensures ∙ e ∙ sym c.count_args.ensures)))
+    ∙ call-wrong (head_params w c.in_ok-params.params) c.args.token n inside (ne_eqb _ _ (λ e. c.if-number-count_args.false (c.number.ensures ∙ ap length c.params.ensures.params ∙ e ∙ sym c.count_args.ensures)))

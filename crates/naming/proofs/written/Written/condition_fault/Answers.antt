@@ -8,9 +8,6 @@ use Rattle.naming.specs.Sources.{source_of}
 use Rattle.naming.proofs.Smallest.{least-both}
 use Rattle.naming.proofs.written.Written.condition_fault.Goals as goal
 
-pub side_fault-right-requires : goal.side_fault-right-requires
-side_fault-right-requires c = omega (arith, c.side_fault-left.ensures.near)
-
 pub returns : goal.returns
 returns c =
     let w = c.args.self in let l = look_of (source_of w) in let n = length w.tokens.now in let F = side_faults w.text.now (tokens_of w c.args.names.now) in

@@ -1,12 +1,14 @@
-use Rattle.std.proofs.Common.{sym}
-use Rattle.naming.proofs.Slots.{known-first, known-second, known-neither}
+use Rattle.std.proofs.Common.{sym, ap, ◌∙◌}
+use Rattle.std.specs.Bool.{then_some}
+use Rattle.naming.specs.Reaches.{among}
+use Rattle.naming.proofs.Slots.{either_first, either_second, least_when}
 use Rattle.naming.proofs.written.Written.declared.Goals as goal
+use Rattle.naming.proofs.written.Written.declared.Goals.{then-is_among, else-is_among}
 
-pub returns-then-is_among : goal.returns-then-is_among
-returns-then-is_among c = known-first _ _ c.args.token.place (sym c.if-is_among.ensures)
-
-pub returns-then-is_among-2 : goal.returns-then-is_among-2
-returns-then-is_among-2 c = known-second _ _ c.args.token.place (sym c.if-is_among-2.ensures)
-
-pub returns-else-is_among-2 : goal.returns-else-is_among-2
-returns-else-is_among-2 c = known-neither _ _ c.args.token.place (sym c.if-is_among.ensures) (sym c.if-is_among-2.ensures)
+pub returns : goal.returns
+returns c =
+    let w = c.args.self in let t = c.args.token in let first = among w c.args.names.now t in let second = among w c.args.lists.now t in
+    c.then_some.ensures ∙ elim c.if-is_among.branch [
+      | then-is_among v ↦ ap (λ b. then_some b t.place) (v.then_some-is ∙ c.is_among.ensures ∙ either_first first second (sym v.if-is_among.ensures))
+      | else-is_among v ↦ ap (λ b. then_some b t.place) (v.then_some-is ∙ v.is_among-else-is_among.ensures ∙ either_second first second (sym v.if-is_among.ensures))
+    ] ∙ least_when _ t.place

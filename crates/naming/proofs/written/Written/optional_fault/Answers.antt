@@ -1,16 +1,10 @@
-use Rattle.std.proofs.Common.{length, sym, ap, ◌∙◌, arith}
+use Rattle.std.proofs.Common.{length, sym, ap, ◌∙◌}
 use Rattle.grammar.specs.Parsers.{is_a}
 use Rattle.grammar.specs.Trees.{look_of}
 use Rattle.naming.specs.Reaches.{tokens_of}
 use Rattle.naming.specs.Sources.{source_of}
-use Rattle.naming.proofs.Begins.{stands}
 use Rattle.naming.proofs.Turns.{optional-yes, optional-no}
 use Rattle.naming.proofs.written.Written.optional_fault.Goals as goal
-
-pub overflow_add-at : goal.overflow_add-at
-overflow_add-at c =
-    let s = stands c.args.keyword c.args.self.tokens.now (length c.args.self.text.now) c.args.at c.requires (sym (c.if-is.ensures ∙ ap (is_a c.args.keyword) c.token.ensures)) in
-    omega (arith, c.args.self.few)
 
 pub returns-then-is : goal.returns-then-is
 returns-then-is c =

@@ -1,6 +1,5 @@
-use Rattle.std.proofs.Common.{◌≡◌, ◌≤◌, []}
+use Rattle.std.proofs.Common.{◌≡◌, []}
 use Rattle.grammar.specs.Trees.{rules_to}
-use Rattle.pile.specs.Entries.{room}
 use Rattle.naming.specs.Faults.{rules_faults}
 use Rattle.naming.specs.Least.{least}
 use Rattle.naming.specs.Reaches.{sheet_of}
@@ -8,4 +7,4 @@ use Rattle.naming.specs.Sources.{source_of}
 use Rattle.naming.proofs.written.Written.rules_fault.Given as goal
 
 abbrev pub invariant-loop-at : goal.invariant-loop-at
-invariant-loop-at l = (l.fault ≡ least (rules_faults (sheet_of l.self) [] (rules_to (source_of l.self) l.at l.self.nodes.now))) × (32769 ≤ room l.names) × (16385 ≤ room l.lists)
+invariant-loop-at l = l.fault ≡ least (rules_faults (sheet_of l.self) [] (rules_to (source_of l.self) l.at l.self.nodes.now))

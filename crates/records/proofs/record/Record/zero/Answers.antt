@@ -4,4 +4,4 @@ use Rattle.records.proofs.record.Record.zero.Goals as goal
 
 pub returns : goal.returns
 unfolding zero_record
-returns c = rw (c.of.ensures, c.of-2.ensures, c.of-3.ensures, c.of-4.ensures, c.of-5.ensures) refl
+returns c = refl

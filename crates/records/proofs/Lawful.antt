@@ -1,0 +1,36 @@
+-- What a table's laws give of the tables that are being laid.
+use Rattle.std.proofs.Common.{◌≡◌, ℕ, ◌+◌, ◌*◌, ◌/◌, ◌%◌, ◌<◌, ◌≤◌, List, length, get_or, set, ltb, true, false, Some, None, sym, ap, ◌∙◌, subst, arith}
+use Rattle.std.proofs.lemmas.List.{length-set}
+use Rattle.std.specs.List.{slice_get}
+use Rattle.records.specs.declared.counts.Counts.{Counts}
+use Rattle.records.specs.declared.record.Record.{Record}
+use Rattle.records.specs.declared.laid.Laid.{Laid}
+use Rattle.records.specs.Columns.{Column, Columns, first_slots}
+use Rattle.records.specs.Laying.{columns_of}
+use Rattle.records.specs.Tabling.{Within, TableLaws}
+use Rattle.records.specs.Slots.{length-slots, slots_full, slots_free, slots_get, slots-past}
+
+module _ {E : Type 0} {slots : Record → List E} {with_slots : Record → List E → Record} {none : E} {count : Counts → ℕ} {with_count : Counts → ℕ → Counts} {table : Columns → Column E} {with_table : Columns → Column E → Columns} (laws : TableLaws slots with_slots none count with_count table with_table) (t : Laid) where
+  entries-are : (table (columns_of t)).entries ≡ first_slots slots none t.records.now (count t.counts)
+  entries-are = ap (λ (c : Column E). c.entries) (laws.reads t.records.now t.counts t.records.ghost_name)
+
+  pub counted : length (table (columns_of t)).entries ≡ count t.counts
+  counted = ap length entries-are ∙ length-slots slots none t.records.now (count t.counts)
+
+  pub full : length t.records.now ≤ count t.counts / 4 → ltb (length (table (columns_of t)).entries) (table (columns_of t)).room ≡ false
+  full h = ap (λ (c : Column E). ltb (length c.entries) c.room) (laws.reads t.records.now t.counts t.records.ghost_name) ∙ slots_full slots none t.records.now (count t.counts) h
+
+  pub free : count t.counts / 4 < length t.records.now → ltb (length (table (columns_of t)).entries) (table (columns_of t)).room ≡ true
+  free h = ap (λ (c : Column E). ltb (length c.entries) c.room) (laws.reads t.records.now t.counts t.records.ghost_name) ∙ slots_free slots none t.records.now (count t.counts) h
+
+  pub lies : (at : ℕ) → at < count t.counts → at / 4 < length t.records.now
+  lies at h = let w = laws.within t.counts (4 * length t.records.now) t.within in omega (arith, w)
+
+  pub held : (at : ℕ) (x : E) (d : Record) → at < count t.counts → slice_get (slots (get_or t.records.now (at / 4) d)) (at % 4) ≡ Some x → Some x ≡ slice_get (table (columns_of t)).entries at
+  held at x d h e = sym (ap (λ xs. slice_get xs at) entries-are ∙ slots_get slots none t.records.now (count t.counts) at x d h (lies at h) e)
+
+  pub past : (at : ℕ) → count t.counts ≤ at → None ≡ slice_get (table (columns_of t)).entries at
+  past at h = sym (ap (λ xs. slice_get xs at) entries-are ∙ slots-past slots none t.records.now (count t.counts) at h)
+
+  pub fits_more : (new : Record) → count t.counts / 4 < length t.records.now → Within (with_count t.counts (count t.counts + 1)) (4 * length (set t.records.now (count t.counts / 4) new))
+  fits_more new h = subst (λ n. Within (with_count t.counts (count t.counts + 1)) (4 * n)) (sym (length-set t.records.now (count t.counts / 4) new)) (laws.fits t.counts (4 * length t.records.now) t.within (omega arith))

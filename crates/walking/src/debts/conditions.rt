@@ -1,0 +1,37 @@
+ghost use Rattle.std.specs.Prelude.{◌≡◌, ◌≤◌, length};
+ghost use Rattle.language.specs.Walking.{owe_all};
+ghost use Rattle.records.specs.Laying.{columns_of};
+ghost use Rattle.walking.specs.Owing.{Paid};
+ghost use Rattle.walking.specs.Sides.{Sound, rows_in};
+
+use super::Debts;
+use crate::conditions::Conditions;
+use crate::in_force::Terms;
+use language::Refusal;
+use records::Stretch;
+
+impl Debts<'_, '_, '_> {
+    // Each row of the conditions of a stretch of their table is owed as a guard at a place.
+    pub fn owe_conditions(
+        &mut self,
+        terms: Terms<'_>,
+        place: usize,
+        listed: Stretch,
+    ) -> Result<(), Refusal>
+        requires sound { Sound (columns_of self.old.tables.now) }
+        requires within { listed.to ≤ length (columns_of self.old.tables.now).conditions.entries }
+        ensures paid { Paid result (owe_all place self.old.facts.now self.old.tables.now.owed (rows_in (columns_of self.old.tables.now) terms.entry.names.now terms.entry.outcome.now listed.from listed.to)) self.old.tables.now self.new.tables.now }
+        ensures lender { self.new.tables.ghost_name ≡ self.old.tables.ghost_name }
+        ensures facts { self.new.facts.now ≡ self.old.facts.now }
+    {
+        for at in listed.from..listed.to {
+            let conditions = Conditions {
+                tables: &*self.tables,
+                terms,
+            };
+            let rows = conditions.rows_at(at);
+            self.owe_rows(place, rows)?;
+        }
+        Ok(())
+    }
+}
