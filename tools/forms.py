@@ -69,11 +69,12 @@ def twins():
     shapes = collections.defaultdict(list)
     for path in sources():
         text = open(path).read()
-        for m in re.finditer(r"\bfn (\w+)[^\n]*(?:\n(?!\s*\{\n)[^\n]*)*\n(\s*)\{\n((?:[^\n]*\n)*?)\2\}", text):
+        # The brace of a body stands on a line of its own after clauses, else at the end of the head.
+        for m in re.finditer(r"^([ ]*)(?:pub(?:\([a-z]+\))? )?fn (\w+)(?:[^\n]*(?:\n(?!\1\{\n)(?!\1\}\n)[^\n]*)*?\n\1|[^\n]*)\{\n((?:[^\n]*\n)*?)\1\}", text, re.M):
             body = m.group(3)
             shape = re.sub(r"\s+", " ", re.sub(r"\b\w+\b", "x", body))
             if len(shape) >= 60:
-                shapes[shape].append((f"{path}:{text.count(chr(10), 0, m.start()) + 1}", m.group(1)))
+                shapes[shape].append((f"{path}:{text.count(chr(10), 0, m.start()) + 1}", m.group(2)))
     found = []
     for members in shapes.values():
         if len(members) > 1:

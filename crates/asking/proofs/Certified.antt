@@ -4,6 +4,7 @@ use lib.IntN.{*ℤ-zero}
 use lib.Signed.{lt_z}
 use Rattle.std.proofs.lemmas.List.{get_or_default, length-set, length-take-le}
 use Rattle.std.proofs.lemmas.Bool.{true≢false, and_parts, and_from, cases_eq, eq-eqb, leb-true}
+use Rattle.std.proofs.lemmas.Option.{same_Some}
 use Rattle.ints.specs.Tests.{is_zero}
 use Rattle.ints.proofs.Belows.{all_from}
 use Rattle.ints.proofs.Zeros.{zero_is}
@@ -23,7 +24,7 @@ use Rattle.provers.specs.Elimination.{bind, push_all, originals, without_all, fr
 use Rattle.asking.specs.Certificates.{Proposals-good}
 use Rattle.asking.proofs.Columns.{derived_entry, Listed, column, combination, in-order-at, in-order-last, total-is}
 use Rattle.asking.proofs.Combining.{times_none, times_long, times-modest, column-is, entry-combined, zero-combined, cancels}
-use Rattle.asking.proofs.Options.{got, opened, passed}
+use Rattle.asking.proofs.Options.{opened, passed}
 use Rattle.asking.proofs.Originals.{alone, alone-there, alone-modest, alone-picks, original-entry, negation-entry, sure-originals}
 use Rattle.asking.proofs.Stepping.{Each, pushed, run, Below, first_below-law}
 
@@ -134,4 +135,4 @@ proposals-good facts goal certificate e =
     let o = opened (refutation facts goal) (λ times. Some (take (length facts + 1) times)) certificate s.1 in
     let f = found facts goal few o.0 o.1.0 in
     let F : List ℕ → Type 0 = λ l. Good (linear facts goal l) in
-    subst F (ap (take (length facts + 1)) f.its ∙ got _ _ o.1.1) (good facts goal few f.row f.has f.below s.0)
+    subst F (ap (take (length facts + 1)) f.its ∙ same_Some _ _ o.1.1) (good facts goal few f.row f.has f.below s.0)

@@ -3,6 +3,7 @@ use Rattle.std.proofs.Common.{◌≡◌, ℕ, zero, suc, ◌+◌, ◌<◌, true,
 use Rattle.std.proofs.lemmas.List.FromFn.{get_or-map-range_with_len}
 use Rattle.std.proofs.lemmas.List.{get_or-set_same, get_or-set_other}
 use Rattle.std.proofs.lemmas.Bool.{and_parts, and_from}
+use Rattle.std.proofs.lemmas.Option.{same_Some}
 use Rattle.ints.proofs.Weighted.{weighted-one}
 use Rattle.rows.specs.declared.row.Row.{Row}
 use Rattle.rows.specs.declared.row.Kind.TheVariants.{AtMost}
@@ -16,7 +17,7 @@ use Rattle.provers.specs.declared.derived.Derived.{Derived}
 use Rattle.provers.specs.Derivations.{original, negation, modest, all_modest}
 use Rattle.provers.specs.Elimination.{fact_of, originals}
 use Rattle.asking.proofs.Columns.{derived_entry, Listed, combination}
-use Rattle.asking.proofs.Options.{got, opened}
+use Rattle.asking.proofs.Options.{opened}
 use Rattle.asking.proofs.Stepping.{Sure, sure-append, sure-cond, sure-one}
 
 -- 1 at the place i and 0 elsewhere
@@ -65,7 +66,7 @@ module _ (R : Derived → Type 0) (goal : Row) where
   sure-originals i [] h d =
       sure-one R _ (λ w e.
       let o = opened (negation goal) (λ r. Some (original i r)) w e in
-      subst R (got (original i o.0) w o.1.1) (rw add-zero at (d o.0 o.1.0)))
+      subst R (same_Some (original i o.0) w o.1.1) (rw add-zero at (d o.0 o.1.0)))
   sure-originals i (r ∷ rs) h d =
       sure-append R (fact_of i r) (originals (i + 1) rs goal)
       (sure-cond R (is_at_most r.kind) _ (λ e. (rw add-zero at (h 0 r (omega arith) refl e), tt)))

@@ -2,12 +2,13 @@
 use Rattle.std.proofs.Common.{◌≡◌, ℕ, zero, suc, ◌+◌, ◌<◌, Bool, true, false, cond, ltb, List, [], ◌∷◌, ◌++◌, length, pos, Some, None, Option, sym, refl, ◌∙◌, subst, arith}
 use lib.Signed.{lt_z}
 use Rattle.std.specs.List.{flat_map}
+use Rattle.std.proofs.lemmas.Option.{none-some, same_Some}
 use Rattle.ints.specs.Tests.{is_zero}
 use Rattle.provers.specs.declared.derived.Derived.{Derived}
 use Rattle.provers.specs.Derivations.{coef_at, combine}
 use Rattle.provers.specs.Elimination.{push_all, zero_of, pair_of, pairs_of, without, without_all, from, first_below}
 use Rattle.provers.proofs.Pushing.{without_more, leave-end}
-use Rattle.asking.proofs.Options.{got, never, opened, passed}
+use Rattle.asking.proofs.Options.{opened, passed}
 
 abbrev pub Each : (Derived → Type 0) → List Derived → Type 0
 Each R [] = Unit {0}
@@ -26,8 +27,8 @@ module _ (R : Derived → Type 0) where
 
   pub pushed : (rs : List Derived) (os : List (Option Derived)) (out : List Derived) → Each R rs → Sure R os → push_all rs os ≡ Some out → Each R out
   unfolding push_all
-  pushed rs [] out h s e = subst (Each R) (got rs out e) h
-  pushed rs (None ∷ os) out h s e = absurd (never out e)
+  pushed rs [] out h s e = subst (Each R) (same_Some rs out e) h
+  pushed rs (None ∷ os) out h s e = absurd (none-some out e)
   pushed rs (Some w ∷ os) out h s e = pushed (rs ++ w ∷ []) os out (each-push rs w h s.0) s.1 (passed (ltb (length rs) 128) _ out e).1
 
   pub sure-append : (xs ys : List (Option Derived)) → Sure R xs → Sure R ys → Sure R (xs ++ ys)
@@ -66,7 +67,7 @@ module _ (P : ℕ → Derived → Type 0)
   run zero q rows out e h s =
       let f : q ≡ 16 = omega arith in
       let k : Each (P 16) rows = subst (λ (x : ℕ). Each (P x) rows) f h in
-      subst (Each (P 16)) (got rows out (sym (leave-end q rows (omega arith)) ∙ s)) k
+      subst (Each (P 16)) (same_Some rows out (sym (leave-end q rows (omega arith)) ∙ s)) k
   run (suc n) q rows out e h s =
       let p = opened (without q rows) (without_all (from (q + 1))) out (sym (without_more q rows (omega arith)) ∙ s) in
       run n (q + 1) p.0 out (omega arith) (stepped q rows p.0 (omega arith) h p.1.0) p.1.1
@@ -79,11 +80,11 @@ pub record Below (R : Derived → Type 0) (times : List ℕ) : Type 0 where
 
 pub first_below-law : (R : Derived → Type 0) (rows : List Derived) (times : List ℕ) → Each R rows → first_below rows ≡ Some times → Below R times
 unfolding first_below
-first_below-law R [] times h e = absurd (never times e)
+first_below-law R [] times h e = absurd (none-some times e)
 first_below-law R (r ∷ rs) times h e =
     let F : Bool → Type 0 = λ b. lt_z r.bound (pos 0) ≡ b → cond b (Some r.times) (first_below rs) ≡ Some times → Below R times in
     let both : F (lt_z r.bound (pos 0)) = elim (lt_z r.bound (pos 0)) as F [
-      | true ↦ λ z k. record { row = r; has = h.0; below = z; its = got r.times times k }
+      | true ↦ λ z k. record { row = r; has = h.0; below = z; its = same_Some r.times times k }
       | false ↦ λ z k. first_below-law R rs times h.1 k
     ] in
     both refl e

@@ -8,6 +8,7 @@ use domains::{Domain, Fault};
 use provers::{MOST_NUMBERS, Prover};
 use rows::Question;
 
+// By hand, not by thiserror: what it gives is promised.
 impl From<Fault> for Unproved {
     ghost from_gives = { λ fault u. u ≡ Faulty fault };
 

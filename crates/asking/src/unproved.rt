@@ -12,6 +12,7 @@ pub enum Unproved {
     Faulty(Fault),
 }
 
+// Display and Error by hand: what is printed is promised, which a derive of thiserror does not do.
 impl fmt::Display for Unproved {
     ghost output = { λ unproved. Some (written unproved) };
 

@@ -33,6 +33,7 @@ impl Sample {
     }
 
     // Some of one quantity less some of another is at most a small number; a row has 1 to 16 quantities.
+    // `as` loses nothing, since every number drawn is below 16; `try_from` would have an error that never comes.
     fn row(&mut self, quantities: u32) -> Option<Row> {
         let quantities = quantities.clamp(1, 16);
         let up = self.below(quantities) as usize;

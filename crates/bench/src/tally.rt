@@ -1,7 +1,7 @@
 use crate::sample::{Sample, Size};
 use domains::{Domain, Linear};
 use provers::{FourierMotzkin, MOST_NUMBERS, Prover};
-use rows::{Kind, MOST_FACTS, Question, Row};
+use rows::{Kind, MOST_FACTS, QUANTITIES, Question, Row};
 
 // What came of some questions: how many had a proposal, how many of these were good, and the sum of all numbers proposed.
 #[derive(Clone, Copy)]
@@ -35,7 +35,7 @@ impl Tally {
             sum: 0,
         };
         let mut sample = Sample::new();
-        let mut room = [Row::new([0; 16], 0, Kind::AtMost)?; MOST_FACTS];
+        let mut room = [Row::new([0; QUANTITIES], 0, Kind::AtMost)?; MOST_FACTS];
         let facts = &mut room[..size.facts.min(MOST_FACTS)];
         for _ in 0..questions {
             let goal = sample.question(size.quantities, facts)?;

@@ -1,5 +1,4 @@
 pub mod Firsts
-pub mod Places
 pub mod Params
 pub mod Rules
 pub mod Flat

@@ -1,5 +1,5 @@
 -- What a sheet may have: 32 rules, 4 lists and 8 numbers a rule, 1,024 expressions, 128 conditions; and the first place past that.
-use Rattle.std.specs.Prelude.{ℕ, zero, suc, ◌+◌, ◌<◌, ◌≤◌, Bool, true, false, cond, not, List, [], ◌∷◌, ◌++◌, map, length, is_some, Some, None, sum_by, count_by, option_and_then, Option, nat_le, nat_lt}
+use Rattle.std.specs.Prelude.{ℕ, zero, suc, ◌+◌, ◌<◌, ◌≤◌, Bool, true, false, cond, not, List, [], ◌∷◌, ◌++◌, map, length, is_some, Some, None, sum_by, count_by, Option, nat_le, nat_lt}
 use Rattle.std.specs.List.{AllByRecursion, slice_get}
 use Rattle.grammar.specs.Raw as Raw
 use Rattle.language.specs.Tree as Tree
@@ -28,10 +28,6 @@ is_up_to q (Some p) = nat_le p q
 abbrev pub placed_up_to : {X : Type 0} → (X → Option ℕ) → List X → ℕ → ℕ
 placed_up_to place xs q = count_by (λ x. is_up_to q (place x)) xs
 
--- the place of the entry at a position, if it has one
-abbrev pub placed_at : {X : Type 0} → (X → Option ℕ) → List X → ℕ → Option ℕ
-placed_at place xs at = option_and_then place (slice_get xs at)
-
 -- the place of a node that is an expression
 abbrev pub expr_place : Node → Option ℕ
 expr_place Blank = None
@@ -43,7 +39,7 @@ expr_place (Call p f xs) = Some p
 expr_place (Bind p a b) = Some p
 expr_place (Test p c a b d e) = Some p
 expr_place (Put p s n l a b e) = Some p
-expr_place (Claim p a from to) = Some p
+expr_place (Claim p a cs) = Some p
 expr_place End = None
 expr_place (Value a xs) = None
 expr_place (Lent l xs) = None

@@ -15,7 +15,7 @@ const MOST_LISTS: usize = 4;
 
 const MOST_NUMBERS: usize = 8;
 
-// The place of a parameter's name, if it is a list, or else if it is a number. Which of the two is asked for is a flag here, as in the definition: a closure would have the same said of it in each clause.
+// The place of a parameter's name, if it is a list, or else if it is a number. Which of the two is asked for is a flag: of a closure each clause would have to say what it answers.
 fn place_of(sheet: Written<'_>, param: Param, list: bool) -> Option<usize>
     ensures { result ≡ place_if list (written (look_of (source_of sheet.entry)) param) }
 {
@@ -48,6 +48,7 @@ pub(crate) fn heads_over(sheet: Written<'_>) -> Option<usize>
     ensures { result ≡ least (heads_over (rules_of sheet.entry)) }
 {
     let mut over = None;
+    // Here and below by positions, since a rule is read at one: its parts lie below it. A fold's closure would tell what a position adds of it alone, and not of the rules up to it.
     for at in 0..sheet.nodes.len() {
         over = earlier(over, head_over(sheet, at));
     }

@@ -1,26 +1,28 @@
 ghost use Rattle.std.specs.Prelude.{◌≡◌, suc};
 ghost use Rattle.records.specs.Laying.{columns_of};
-ghost use Rattle.counting.specs.Counts.{First, first_over, is_up_to, placed_at, placed_up_to};
+ghost use Rattle.counting.specs.Counts.{First, first_over, is_up_to, placed_up_to};
 
 use crate::placed::Placed;
-use records::Laid;
+use records::{Laid, Stretch};
 
-// The entry of a table at a position has a place, and that is at most this one.
-fn is_up_to<E: Placed>(tables: &Laid<'_>, at: usize, place: usize) -> bool
-    ensures { result ≡ is_up_to place (placed_at E.place (E.table (columns_of tables.now)).entries at) }
+// An entry has a place, and that is at most this one.
+fn is_up_to<E: Placed>(entry: E, place: usize) -> bool
+    ensures { result ≡ is_up_to place (E.place entry) }
 {
-    tables
-        .get::<E>(at)
-        .and_then(|entry| entry.place())
-        .is_some_and(|it| it <= place)
+    entry.place().is_some_and(|it| it <= place)
 }
 
 // How many entries of a table have a place up to this one.
 fn count_up_to<E: Placed>(tables: &Laid<'_>, place: usize) -> usize
     ensures { result ≡ placed_up_to E.place (E.table (columns_of tables.now)).entries place }
 {
-    (0..tables.count::<E>())
-        .filter(|at| is_up_to::<E>(tables, *at, place))
+    let all = Stretch {
+        from: 0,
+        to: tables.count::<E>(),
+    };
+    tables
+        .entries_of::<E>(all)
+        .filter(|entry| is_up_to(*entry, place))
         .count()
 }
 

@@ -47,7 +47,7 @@ pub(crate) struct Desk {
     pub records: Vec<Record>,
 }
 
-// Each domain has a type of its own, and a word that was typed picks one.
+// A match of two arms: a `dyn` value would be picked by the same match.
 fn verify(question: &ByHand, domain: DomainName, certificate: &[u32]) -> Result<Answer, Complaint> {
     let asked = question.asked().ok_or(Complaint::NoGoal)?;
     Ok(Answer::Outcome(match domain {
@@ -56,6 +56,7 @@ fn verify(question: &ByHand, domain: DomainName, certificate: &[u32]) -> Result<
     }))
 }
 
+// A match of two arms: a `dyn` value would be picked by the same match, and what `linear_certificate` promises would be lost.
 fn ask(heap: Global, question: &ByHand, prover: ProverName) -> Result<Answer, Complaint> {
     let asked = question.asked().ok_or(Complaint::NoGoal)?;
     let mut buffer = [0u32; MOST_NUMBERS];

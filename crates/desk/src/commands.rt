@@ -1,4 +1,4 @@
-use notation::{Misread, read_row, read_u32, read_value};
+use notation::{Misread, read_numbers, read_row, read_value};
 use rows::Row;
 use std::alloc::{AllocError, AllocFailed, Global};
 use std::io;
@@ -86,6 +86,7 @@ pub enum Complaint {
     Misread(#[from] Misread),
 }
 
+// Both by hand: thiserror's `from` would make a variant of each, and both are told as a misreading.
 impl From<AllocError> for Complaint {
     fn from(value: AllocError) -> Complaint {
         Complaint::Misread(Misread::from(value))
@@ -93,8 +94,8 @@ impl From<AllocError> for Complaint {
 }
 
 impl<T: Drop> From<AllocFailed<T>> for Complaint {
-    fn from(_value: AllocFailed<T>) -> Complaint {
-        Complaint::Misread(Misread::Memory)
+    fn from(value: AllocFailed<T>) -> Complaint {
+        Complaint::Misread(Misread::from(value))
     }
 }
 
@@ -113,22 +114,13 @@ fn bare(command: Command, rest: Option<&str>) -> Result<Command, Complaint> {
     }
 }
 
-fn read_numbers(heap: Global, words: Option<&str>) -> Result<Vec<u32>, Complaint> {
-    let mut numbers = Vec::new(heap);
-    let Some(text) = words else {
-        return Ok(numbers);
-    };
-    for word in text.split(' ') {
-        let n = read_u32(heap, word)?;
-        numbers.push(n)?;
-    }
-    Ok(numbers)
-}
-
 fn read_verify(heap: Global, rest: &str) -> Result<Command, Complaint> {
     let (name, numbers) = first_word(rest);
     let domain = name.parse::<DomainName>()?;
-    let certificate = read_numbers(heap, numbers)?;
+    let certificate = match numbers {
+        Some(text) => read_numbers(heap, text)?,
+        None => Vec::new(heap),
+    };
     Ok(Command::Verify {
         domain,
         certificate,

@@ -34,7 +34,7 @@ fn quoted(heap: Global, bytes: &[u8]) -> Result<String, AllocError> {
 
 // What the grammar would have taken at a place, and what stands there.
 fn grammar_sentence(heap: Global, text: &[u8], place: usize) -> Result<String, AllocError> {
-    let mut tokens = [Token::end(0); 16384];
+    let mut tokens = [Token::end(0); MOST_BYTES];
     let count = cut(text, &mut tokens).unwrap_or(0);
     let found = match token_at(&tokens[0..count], place) {
         Some(token) => quoted(heap, token.bytes(text))?,
@@ -63,7 +63,7 @@ fn letter_sentence(text: &[u8], place: usize) -> &'static str {
 
 // What a sheet has too many of.
 fn full_sentence(text: &[u8]) -> &'static str {
-    let mut tokens = [Token::end(0); 16384];
+    let mut tokens = [Token::end(0); MOST_BYTES];
     match cut(text, &mut tokens) {
         Err(Misspelt::Length) => "a sheet has 16,384 bytes at most",
         Err(Misspelt::Brackets(_)) => "64 brackets are open before this one, and no more may be",

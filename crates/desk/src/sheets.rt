@@ -1,11 +1,12 @@
 use crate::commands::Complaint;
 use language::Refusal;
+use letters::MOST_BYTES;
 use std::fs::File;
 use std::io;
 use std::io::Read;
 
 // A text with one byte more than this is refused by its length alone, so no more of a file is read.
-const MOST_READ: u64 = 16_385;
+const MOST_READ: u64 = MOST_BYTES as u64 + 1;
 
 // The front of a file, as far as a reading looks.
 pub(crate) fn read_front(rt: &HostRuntime, file: &str) -> io::Result<Vec<u8>> {

@@ -36,6 +36,7 @@ impl Reason {
     }
 }
 
+// Display and Error are by hand in this file: what is printed is promised, which a derive of thiserror does not do.
 impl fmt::Display for Reason {
     ghost output = { λ reason. Some (word reason) };
 

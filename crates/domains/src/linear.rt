@@ -8,10 +8,7 @@ ghost use Rattle.std.proofs.Common.{rules};
 use crate::domain::Domain;
 use crate::fault::{Fault, Reason};
 use ints::times;
-use rows::{Kind, QUANTITIES, Question, Row};
-
-// No multiplier of a certificate is larger.
-pub const MOST_TIMES: u32 = 1_000_000;
+use rows::{Kind, MOST_TIMES, QUANTITIES, Question, Row};
 
 // A column of a list of rows: the coefficients of one quantity, or the bounds.
 #[derive(Clone, Copy, Debug, PartialEq, Eq)]
@@ -87,6 +84,7 @@ impl Weighted<'_> {
         ensures { result ≡ total self.entry.question.facts.now self.entry.question.goal.now self.entry.certificate.now column }
     {
         let facts = self.question.facts;
+        // `sum` would have every run of its turns fit; std has the lemmas for that of numbers without a sign only.
         let mut sum = 0i64;
         for (fact, m) in facts.iter().zip(self.certificate) {
             sum += times(*m, entry_of(fact, column));

@@ -18,9 +18,10 @@ pub const MOST_WIDTH: usize = 4;
 pub const TOP: u8 = 15;
 
 // The row's sum where the quantities have these values.
-fn value_at(row: &Row, point: &[u8; 16]) -> i64
+fn value_at(row: &Row, point: &[u8; QUANTITIES]) -> i64
     ensures { result ≡ value row.now (at point.now) }
 {
+    // `sum` would have every run of its turns fit; std has the lemmas for that of numbers without a sign only.
     let mut sum = 0i64;
     for (j, x) in point.iter().enumerate() {
         sum += times(u32::from(*x), row.coef(j));
@@ -28,7 +29,7 @@ fn value_at(row: &Row, point: &[u8; 16]) -> i64
     sum
 }
 
-fn met(row: &Row, point: &[u8; 16]) -> bool
+fn met(row: &Row, point: &[u8; QUANTITIES]) -> bool
     ensures { result ≡ meets (at point.now) row.now }
 {
     match row.kind() {
@@ -37,14 +38,14 @@ fn met(row: &Row, point: &[u8; 16]) -> bool
     }
 }
 
-fn all_met(rows: &[Row], point: &[u8; 16]) -> bool
+fn all_met(rows: &[Row], point: &[u8; QUANTITIES]) -> bool
     ensures { result ≡ meets_all (at point.now) rows.now }
 {
     rows.iter().all(|row| met(row, point))
 }
 
 // These values meet all facts and break the goal.
-fn breaks_goal(question: Question<'_>, point: &[u8; 16]) -> bool
+fn breaks_goal(question: Question<'_>, point: &[u8; QUANTITIES]) -> bool
     ensures { result ≡ breaks question.entry.facts.now question.entry.goal.now (at point.now) }
 {
     all_met(question.facts, point) && !met(question.goal, point)
@@ -66,7 +67,7 @@ fn occurs_at(question: Question<'_>, j: usize) -> bool
 #[derive(Clone, Copy)]
 struct Occurring<'a> {
     question: Question<'a>,
-    flags: [bool; 16],
+    flags: [bool; QUANTITIES],
     ghost flagged: { (j : ℕ) → j < 16 → slice_index_or flags j false ≡ occurs question.facts.now question.goal.now j },
 }
 
@@ -89,7 +90,7 @@ impl<'a> Occurring<'a> {
     }
 
     // Some values of the occurring quantities below n, set in the point, break the goal.
-    fn some_break(&self, n: usize, point: [u8; 16]) -> bool
+    fn some_break(&self, n: usize, point: [u8; QUANTITIES]) -> bool
         requires { n ≤ 16 }
         ensures { result ≡ broken self.now.question.facts.now self.now.question.goal.now n point }
     {
@@ -146,7 +147,7 @@ impl Domain for Modes {
         if occurring.count() > MOST_WIDTH {
             return Err(Fault::new(Reason::Width));
         }
-        if occurring.some_break(QUANTITIES, [0; 16]) {
+        if occurring.some_break(QUANTITIES, [0; QUANTITIES]) {
             return Err(Fault::new(Reason::Case));
         }
         Ok(())

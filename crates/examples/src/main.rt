@@ -54,6 +54,7 @@ fn all_as_they_must(same: bool) -> anyhow::Result<()> {
     Ok(())
 }
 
+// This loop and that of the refused texts are no plainer as one: it would take a closure that holds the records, and owe that it may be called.
 fn run_questions(rt: &HostRuntime) -> anyhow::Result<()> {
     let mut same = true;
     for example in EXAMPLES {

@@ -1,7 +1,7 @@
 use anyhow::Context;
 use asking::linear_certificate;
 use domains::{Fault, Linear, Modes, Reason, verified};
-use notation::{read_row, read_u32};
+use notation::{read_numbers, read_row};
 use provers::MOST_NUMBERS;
 use rows::{Question, Row};
 use std::alloc::Global;
@@ -147,19 +147,13 @@ fn rows_of(heap: Global, text: &str) -> anyhow::Result<Vec<Row>> {
 }
 
 fn numbers_of(heap: Global, text: &str) -> anyhow::Result<Vec<u32>> {
-    let mut numbers = Vec::new(heap);
     if text.is_empty() {
-        return Ok(numbers);
+        return Ok(Vec::new(heap));
     }
-    for part in text.split(' ') {
-        let n = read_u32(heap, part).context(
-            "an example's certificate has something else than numbers",
-        )?;
-        numbers.push(n)?;
-    }
-    Ok(numbers)
+    read_numbers(heap, text).context("an example's certificate has something else than numbers")
 }
 
+// A match of three arms: a `dyn` value would be picked by the same match.
 fn put(asked: Asked, question: Question<'_>, certificate: &[u32]) -> Got {
     match asked {
         Asked::Linear => Got::Outcome(verified(&Linear, question, certificate)),

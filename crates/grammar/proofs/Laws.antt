@@ -8,7 +8,7 @@ use Rattle.letters.specs.declared.kind.Kind.TheVariants.{End}
 use Rattle.letters.specs.declared.token.Token.{Token}
 use Rattle.letters.specs.Kinds.{number, same_kind}
 use Rattle.grammar.specs.declared.misplaced.Misplaced.{Misplaced}
-use Rattle.grammar.specs.Parsers.{look_in, is_a, Ans, done, P, then, give, stop, next, seq, when}
+use Rattle.grammar.specs.Parsers.{look_in, is_a, Ans, done, fault, P, then, give, stop, next, seq, when, wanted}
 use Rattle.grammar.specs.Trees.{look_of}
 use Rattle.grammar.specs.Held.{Held, look, sheet, Lasts, Taken, Any, Comes, Told, Went, Bumped}
 
@@ -50,6 +50,11 @@ module _ {A X : Type 0} {R : Held → A → X → Type 0} where
   pub on-no : {r : Result A Misplaced} (b : Token → Bool) (p q : ℕ → P X) {s s' : Held} → b (look s s.at) ≡ false → Went R r q s s' → Went R r (λ f. when b (p f) (q f)) s s'
   unfolding when
   on-no b p q {s} e w = went-as (λ f. when b (p f) (q f)) q (λ a c. (c.0, λ f h. ap (λ z. cond z (p f (look s) s.at) (q f (look s) s.at)) e ∙ c.1 f h)) w
+
+  -- what is wanted stands there
+  pub wanted-here : {r : Result A Misplaced} (b : Token → Bool) (k : ℕ → Token → P X) {s s' : Held} → b (look s s.at) ≡ true → Went R r (λ f. seq (wanted b) (k f)) s s' → Went R r (λ f. seq next (k f)) s s'
+  unfolding seq when
+  wanted-here b k {s} e w = went-as (λ f. seq next (k f)) (λ f. seq (wanted b) (k f)) (λ a c. (c.0, λ f h. sym (ap (λ z. then (cond z (next (look s) s.at) (fault s.at)) (λ x j. k f x (look s) j)) e) ∙ c.1 f h)) w
 
   -- what the exit of a `?` returns
   pub broke : {r : Result A Misplaced} {e : Misplaced} {p : ℕ → P X} {s s' : Held} → IsErrAnd r (λ y. y ≡ e) → Went R (Err e) p s s' → Went R r p s s'
@@ -98,7 +103,7 @@ inside ts e i k q h = go (dec_lt i (length ts))
     go (no l) = absurd (h (sym (eqb→eq (number End) (number k) (subst T (sym (sym (ap (λ (t : Token). eqb (number t.kind) (number k)) (get_or_past ts i _ (omega arith))) ∙ q)) tt))))
 
 pub bumped-lasts : {s s' : Held} → Bumped s s' → Lasts s s'
-bumped-lasts {s} {s'} b = record { same = b.same; added = ([], b.nodes ∙ sym (append-nil s.nodes)); rules = ap₂ (λ c ns. sheet (record { source = c; at = 0; nodes = ns; lender = 0 })) b.same b.nodes }
+bumped-lasts {s} {s'} b = record { same = b.same; added = ([], b.nodes ∙ sym (append-nil s.nodes)); rules = ap₂ (λ c ns. sheet (record { source = c; at = 0; nodes = ns; lender = (0, 0) })) b.same b.nodes }
 
 abbrev pub nexts : {a : ℕ} {s s' : Held} → a ≡ s.at → Bumped s s' → Went Taken (Ok a) (λ _. next) s s'
 nexts {a} {s} {s'} e b = record { lender = b.lender; size = b.size; ahead = omega arith; told = record { val = look s' a; rel = record { reads = refl }; came = (0, λ f h. ap₂ done (sym (ap₂ (λ c i. look_of c i) b.same e)) (sym b.at)); lasts = bumped-lasts b } }

@@ -5,7 +5,6 @@ pub mod Makes
 pub mod Inverts
 pub mod Rereads
 pub mod Levels
-pub mod Rooms
 pub mod Comings
 pub mod Ruling
 pub mod Wholes

@@ -1,12 +1,15 @@
 -- Nodes that are made, and what stands while others are.
-use Rattle.std.proofs.Common.{◌≡◌, ℕ, ◌<◌, [], ◌∷◌, ◌++◌, length, Some, Ok, sym, ap, ◌∙◌, ap₂, append-nil, arith, length-append}
+use Rattle.std.proofs.Common.{◌≡◌, ℕ, ◌<◌, [], ◌∷◌, ◌++◌, length, Some, Ok, Err, sym, refl, ap, ◌∙◌, ap₂, append-nil, arith, length-append}
 use Rattle.letters.specs.declared.token.Token.{Token}
+use Rattle.grammar.specs.declared.misplaced.Misplaced.{Misplaced}
 use Rattle.grammar.specs.declared.node.Node.{Node}
-use Rattle.grammar.specs.declared.node.Node.TheVariants.{NoArgs}
-use Rattle.grammar.specs.Raw.{Expr, Args, none}
-use Rattle.grammar.specs.Parsers.{done, give}
+use Rattle.grammar.specs.declared.node.Node.TheVariants.{NoArgs, Arg}
+use Rattle.grammar.specs.Raw.{Expr, Args, none, more}
+use Rattle.grammar.specs.Parsers.{P, done, give}
+use Rattle.grammar.specs.Sheets.{arg_on}
 use Rattle.grammar.specs.Trees.{Part, look_of, grown_expr, grown_args, part_in, raw_at, rule_in}
 use Rattle.grammar.specs.Held.{Held, look, sheet, Lasts, Taken, Stands, ArgsStand, Went, Pushed}
+use Rattle.grammar.proofs.Laws.{seq-ok, seq-err}
 use Rattle.grammar.proofs.Parts.{kept, made, rules-made}
 
 pub same-token : {s s' : Held} → Lasts s s' → (a : ℕ) → look s' a ≡ look s a
@@ -34,7 +37,7 @@ pushed-part : {p : ℕ} {n : Node} {s s' : Held} → Pushed p n s s' → part_in
 pushed-part {p} {n} {s} {s'} h = (λ i. part_in (h.same i) (length (h.nodes i)) (h.nodes i) (h.here i)) ∙ made s.source s.nodes n
 
 pub pushed-rules : {p : ℕ} {n : Node} {s s' : Held} → Pushed p n s s' → sheet s' ≡ sheet s ++ rule_in s.source (raw_at s.source (length s.nodes) s.nodes) (Some n)
-pushed-rules {n} {s} {s'} h = ap₂ (λ c ns. sheet (record { source = c; at = 0; nodes = ns; lender = 0 })) h.same h.nodes ∙ rules-made s.source s.nodes n
+pushed-rules {n} {s} {s'} h = ap₂ (λ c ns. sheet (record { source = c; at = 0; nodes = ns; lender = (0, 0) })) h.same h.nodes ∙ rules-made s.source s.nodes n
 
 pub pushed-lasts : {p : ℕ} {n : Node} {s s' : Held} → Pushed p n s s' → rule_in s.source (raw_at s.source (length s.nodes) s.nodes) (Some n) ≡ [] → Lasts s s'
 pushed-lasts {p} {n} {s} h e = record { same = h.same; added = (n ∷ [], h.nodes); rules = pushed-rules h ∙ ap (λ rs. sheet s ++ rs) e ∙ append-nil (sheet s) }
@@ -69,3 +72,10 @@ pushes-args {xs} h plain q = record {
 -- no arguments stand at their node
 pub c-none : {p : ℕ} {s s' : Held} → Pushed p NoArgs s s' → ArgsStand s' p none
 c-none h = record { below = omega arith; reads = ap (λ (x : Part). x.args) (pushed-part h) }
+
+-- one more argument
+pub arg-made : {p : ℕ → P Expr} {xs : Args} {before last at : ℕ} {s s1 s2 : Held} → ArgsStand s before xs → Went Stands (Ok last) p s s1 → Pushed at (Arg before last) s1 s2 → Went ArgsStand (Ok at) (λ f. arg_on (p f) xs) s s2
+arg-made h w v = seq-ok _ w (pushes-args v refl (λ i. more ((keep-args w.told.lasts h).reads i) (w.told.rel.reads i)))
+
+pub arg-fails : {p : ℕ → P Expr} (xs : Args) {e : Misplaced} {s s1 : Held} → Went Stands (Err e) p s s1 → Went ArgsStand (Err e) (λ f. arg_on (p f) xs) s s1
+arg-fails xs w = seq-err _ w

@@ -1,6 +1,7 @@
 -- Where a parse stands, and what a step of it does.
-use Rattle.std.specs.Prelude.{◌≡◌, ℕ, suc, ◌+◌, ◌<◌, ◌≤◌, List, [], ◌∷◌, ◌++◌, length, take, Some, Ok, Err, Result}
+use Rattle.std.specs.Prelude.{◌≡◌, ℕ, suc, ◌+◌, ◌<◌, ◌≤◌, List, [], ◌∷◌, ◌++◌, length, Some, Ok, Err, Result}
 use Rattle.letters.specs.declared.token.Token.{Token}
+use Rattle.pile.specs.Entries.{entries, lender}
 use Rattle.grammar.specs.declared.misplaced.Misplaced.{Misplaced}
 use Rattle.grammar.specs.declared.node.Node.{Node}
 use Rattle.grammar.specs.declared.parser.Parser.{Parser}
@@ -12,11 +13,11 @@ pub record Held : Type 0 where
   pub source : Source
   pub at : ℕ
   pub nodes : List Node
-  -- whose nodes they are
-  pub lender : ℕ
+  -- whose pile they lie on, and whose slots
+  pub lender : ℕ × ℕ
 
 abbrev pub held : Parser → Held
-held p = record { source = record { tokens = p.source.tokens.now; end = p.source.end }; at = p.at; nodes = take p.count p.nodes.now; lender = p.nodes.ghost_name }
+held p = record { source = record { tokens = p.source.tokens.now; end = p.source.end }; at = p.at; nodes = entries p.nodes.now; lender = (p.nodes.ghost_name, lender p.nodes.now) }
 
 abbrev pub look : Held → Look
 look s = look_of s.source
@@ -79,11 +80,6 @@ pub record Went {A X : Type 0} (R : Held → A → X → Type 0) (r : Result A M
   pub ahead : s.at ≤ s'.at
   pub told : Told R r p s s'
 
--- on in the same text
-pub record Moved (s s' : Held) : Type 0 where
-  pub size : token_count s' ≡ token_count s
-  pub ahead : s.at ≤ s'.at
-
 -- no more nodes were made than tokens passed
 abbrev pub Paid : Held → Held → Type 0
 Paid s s' = length s'.nodes + s.at ≤ length s.nodes + s'.at
@@ -94,11 +90,6 @@ Owed s s' = length s'.nodes + s.at ≤ suc (length s.nodes + s'.at)
 
 abbrev pub OwedTwo : Held → Held → Type 0
 OwedTwo s s' = length s'.nodes + s.at ≤ suc (suc (length s.nodes + s'.at))
-
--- this holds where there was no fault
-abbrev pub OnOk : {A : Type 0} → Result A Misplaced → Type 0 → Type 0
-OnOk (Ok a) K = K
-OnOk (Err e) K = Unit {0}
 
 -- past one token
 pub record Bumped (s s' : Held) : Type 0 where

@@ -1,16 +1,17 @@
 // Expressions, by recursive descent. Each makes its node after its parts and gives its position. `sum` and `product` have a loop each: a parameter for what they join would have to carry the clauses of a walk that calls it back.
-ghost use Rattle.std.specs.Prelude.{suc, ◌<◌, true, length};
-ghost use Rattle.grammar.specs.Sheets.{expr_s, sum_s, product_s, atom_s, args_s, name_by, bracket_by, let_by, if_by, put_by, arg_on, conditions_s};
-ghost use Rattle.grammar.specs.Raw.{Args};
-ghost use Rattle.grammar.specs.Held.{held, look, Went, Stands, ArgsStand, Moved, Paid, Owed, OwedTwo, OnOk};
+ghost use Rattle.std.specs.Prelude.{suc, ◌<◌, true, length, OnOk};
+ghost use Rattle.grammar.specs.Parsers.{seq, want};
+ghost use Rattle.grammar.specs.Sheets.{expr_s, sum_s, product_s, atom_s, args_s, name_by, bracket_by, let_by, if_by, put_by, conditions_s};
+ghost use Rattle.grammar.specs.Held.{held, look, Went, Stands, ArgsStand, Paid, Owed, OwedTwo};
 
 use crate::misplaced::Misplaced;
 use crate::node::Node;
 use crate::parser::Parser;
 use letters::Kind;
 
-impl Parser<'_, '_> {
-    #[cycle(args_argument_atom_binding_bracket_choice_expr_named_product_putting_sum)]
+impl Parser<'_, '_, '_> {
+    // Which kind is at hand is asked by `sees`, one after another, and not by a match: `sees` also promises that the token is inside, which `bump` asks for.
+    #[cycle(args_atom_binding_bracket_choice_expr_named_product_putting_sum)]
     pub fn expr(&mut self) -> Result<usize, Misplaced>
         ensures went { Went Stands result expr_s (held self.old) (held self.new) }
         ensures paid { Paid (held self.old) (held self.new) }
@@ -30,7 +31,7 @@ impl Parser<'_, '_> {
     }
 
     // What follows `let`.
-    #[cycle(args_argument_atom_binding_bracket_choice_expr_named_product_putting_sum)]
+    #[cycle(args_atom_binding_bracket_choice_expr_named_product_putting_sum)]
     fn binding(&mut self, token: usize) -> Result<usize, Misplaced>
         ensures went { Went Stands result (λ f. let_by (expr_s f) (look (held self.old) token)) (held self.old) (held self.new) }
         ensures paid { Paid (held self.old) (held self.new) }
@@ -49,7 +50,7 @@ impl Parser<'_, '_> {
     }
 
     // What follows `if`.
-    #[cycle(args_argument_atom_binding_bracket_choice_expr_named_product_putting_sum)]
+    #[cycle(args_atom_binding_bracket_choice_expr_named_product_putting_sum)]
     fn choice(&mut self, token: usize) -> Result<usize, Misplaced>
         ensures went { Went Stands result (λ f. if_by (sum_s f) (expr_s f) (look (held self.old) token)) (held self.old) (held self.new) }
         ensures paid { Paid (held self.old) (held self.new) }
@@ -72,7 +73,7 @@ impl Parser<'_, '_> {
     }
 
     // What follows `put`.
-    #[cycle(args_argument_atom_binding_bracket_choice_expr_named_product_putting_sum)]
+    #[cycle(args_atom_binding_bracket_choice_expr_named_product_putting_sum)]
     fn putting(&mut self, token: usize) -> Result<usize, Misplaced>
         ensures went { Went Stands result (λ f. put_by (sum_s f) (expr_s f) (look (held self.old) token)) (held self.old) (held self.new) }
         ensures paid { Paid (held self.old) (held self.new) }
@@ -94,7 +95,7 @@ impl Parser<'_, '_> {
         }))
     }
 
-    #[cycle(args_argument_atom_binding_bracket_choice_expr_named_product_putting_sum)]
+    #[cycle(args_atom_binding_bracket_choice_expr_named_product_putting_sum)]
     fn sum(&mut self) -> Result<usize, Misplaced>
         ensures went { Went Stands result sum_s (held self.old) (held self.new) }
         ensures paid { Paid (held self.old) (held self.new) }
@@ -108,7 +109,7 @@ impl Parser<'_, '_> {
         Ok(left)
     }
 
-    #[cycle(args_argument_atom_binding_bracket_choice_expr_named_product_putting_sum)]
+    #[cycle(args_atom_binding_bracket_choice_expr_named_product_putting_sum)]
     fn product(&mut self) -> Result<usize, Misplaced>
         ensures went { Went Stands result product_s (held self.old) (held self.new) }
         ensures paid { Paid (held self.old) (held self.new) }
@@ -122,7 +123,8 @@ impl Parser<'_, '_> {
         Ok(left)
     }
 
-    #[cycle(args_argument_atom_binding_bracket_choice_expr_named_product_putting_sum)]
+    // By `sees` and not by a match, as `expr`.
+    #[cycle(args_atom_binding_bracket_choice_expr_named_product_putting_sum)]
     fn atom(&mut self) -> Result<usize, Misplaced>
         ensures went { Went Stands result atom_s (held self.old) (held self.new) }
         ensures paid { Paid (held self.old) (held self.new) }
@@ -131,8 +133,7 @@ impl Parser<'_, '_> {
             let token = self.bump();
             Ok(self.push(Node::Num { token }))
         } else if self.sees(Kind::Name) {
-            let token = self.bump();
-            self.named(token)
+            self.named()
         } else if self.sees(Kind::Open) {
             let token = self.bump();
             self.bracket(token)
@@ -141,29 +142,29 @@ impl Parser<'_, '_> {
         }
     }
 
-    // What a name begins, which was passed: an element of a list, a call, or the name alone.
-    #[cycle(args_argument_atom_binding_bracket_choice_expr_named_product_putting_sum)]
-    fn named(&mut self, token: usize) -> Result<usize, Misplaced>
-        requires { length (held self.old).nodes < (held self.old).at }
-        ensures went { Went Stands result (λ f. name_by (sum_s f) (args_s f) (look (held self.old) token)) (held self.old) (held self.new) }
-        ensures paid { Owed (held self.old) (held self.new) }
+    // A name, and what it begins: an element of a list, a call, or the name alone.
+    #[cycle(args_atom_binding_bracket_choice_expr_named_product_putting_sum)]
+    fn named(&mut self) -> Result<usize, Misplaced>
+        ensures went { Went Stands result (λ f. seq (want Kind.Name) (name_by (sum_s f) (args_s f))) (held self.old) (held self.new) }
+        ensures paid { Paid (held self.old) (held self.new) }
     {
+        let name = self.take(Kind::Name)?;
         if self.sees(Kind::OpenSquare) {
             self.bump();
             let index = self.sum()?;
             self.take(Kind::CloseSquare)?;
-            Ok(self.push(Node::Read { name: token, index }))
+            Ok(self.push(Node::Read { name, index }))
         } else if self.sees(Kind::Open) {
             self.bump();
             let args = self.args()?;
-            Ok(self.push(Node::Call { name: token, args }))
+            Ok(self.push(Node::Call { name, args }))
         } else {
-            Ok(self.push(Node::Name { token }))
+            Ok(self.push(Node::Name { token: name }))
         }
     }
 
     // What a bracket begins, which was passed: an expression, or one with conditions that it is to meet.
-    #[cycle(args_argument_atom_binding_bracket_choice_expr_named_product_putting_sum)]
+    #[cycle(args_atom_binding_bracket_choice_expr_named_product_putting_sum)]
     fn bracket(&mut self, token: usize) -> Result<usize, Misplaced>
         ensures went { Went Stands result (λ f. bracket_by (expr_s f) (conditions_s true f) (look (held self.old) token)) (held self.old) (held self.new) }
         ensures paid { Paid (held self.old) (held self.new) }
@@ -188,8 +189,8 @@ impl Parser<'_, '_> {
         }
     }
 
-    // The arguments up to and with their closing bracket; name and bracket were passed.
-    #[cycle(args_argument_atom_binding_bracket_choice_expr_named_product_putting_sum)]
+    // The arguments up to and with their closing bracket; name and bracket were passed, and have made no node yet.
+    #[cycle(args_atom_binding_bracket_choice_expr_named_product_putting_sum)]
     fn args(&mut self) -> Result<usize, Misplaced>
         requires { suc (length (held self.old).nodes) < (held self.old).at }
         ensures went { Went ArgsStand result args_s (held self.old) (held self.new) }
@@ -201,24 +202,20 @@ impl Parser<'_, '_> {
             self.bump();
             return Ok(none);
         }
-        let mut args = self.argument(none)?;
+        let first = self.sum()?;
+        let mut args = self.push(Node::Arg {
+            before: none,
+            last: first,
+        });
         while self.sees(Kind::Comma) {
             self.bump();
-            args = self.argument(args)?;
+            let next = self.sum()?;
+            args = self.push(Node::Arg {
+                before: args,
+                last: next,
+            });
         }
         self.take(Kind::Close)?;
         Ok(args)
-    }
-
-    // One more argument, after those at a position.
-    #[cycle(args_argument_atom_binding_bracket_choice_expr_named_product_putting_sum)]
-    fn argument(&mut self, before: usize) -> Result<usize, Misplaced>
-        requires { length (held self.old).nodes < (held self.old).at }
-        ensures went { (xs : Args) → ArgsStand (held self.old) before xs → Went ArgsStand result (λ f. arg_on (sum_s f) xs) (held self.old) (held self.new) }
-        ensures moved { Moved (held self.old) (held self.new) }
-        ensures paid { Owed (held self.old) (held self.new) }
-    {
-        let arg = self.sum()?;
-        Ok(self.push(Node::Arg { before, last: arg }))
     }
 }

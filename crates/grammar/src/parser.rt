@@ -1,14 +1,16 @@
-ghost use Rattle.std.specs.Prelude.{◌≤◌, length};
+ghost use Rattle.std.specs.Prelude.{◌^◌, ◌<◌, ◌≤◌, length};
+ghost use Rattle.pile.specs.Entries.{entries, room};
 
 use crate::node::Node;
 use crate::tokens::Tokens;
+use pile::Pile;
 
-// Where a parse stands: the token at hand, and the nodes made so far. Each node has a token of its own that was passed, so there is always room for one. They lie in the caller's slice, so their count stands beside it.
+// Where a parse stands: the token at hand, and the nodes made so far. Each node has a token of its own that was passed, so there is always room for one.
 #[derive(Drop)]
-pub struct Parser<'t, 'n> {
+pub struct Parser<'t, 'p, 'n> {
     pub source: Tokens<'t>,
     pub at: usize,
-    pub nodes: &'n mut [Node],
-    pub count: usize,
-    ghost within: { (count ≤ at) × (at ≤ length source.tokens.now) × (length source.tokens.now ≤ length nodes.now) },
+    pub nodes: &'p mut Pile<'n, Node>,
+    ghost within: { (length (entries nodes.now) ≤ at) × (at ≤ length source.tokens.now) × (length source.tokens.now ≤ room nodes.now) },
+    ghost few: { length source.tokens.now < 2 ^ 64 },
 }

@@ -10,8 +10,9 @@ use crate::parser::Parser;
 use crate::tokens::Tokens;
 use crate::unread::Unread;
 use letters::Kind;
+use pile::Pile;
 
-impl Parser<'_, '_> {
+impl Parser<'_, '_, '_> {
     // The rule whose keyword was passed.
     fn rule(&mut self, token: usize) -> Result<Node, Misplaced>
         ensures went { Went RuleStands result (rule_s (look (held self.old) token)) (held self.old) (held self.new) }
@@ -64,12 +65,12 @@ pub fn parse(source: Tokens<'_>, nodes: &mut [Node]) -> Result<usize, Unread>
     if nodes.len() < source.tokens.len() {
         return Err(Unread::Full);
     }
+    let mut made = Pile::over(nodes);
     let mut parser = Parser {
         source,
         at: 0,
-        nodes,
-        count: 0,
+        nodes: &mut made,
     };
     parser.rules()?;
-    Ok(parser.count)
+    Ok(made.mark())
 }

@@ -1,4 +1,4 @@
-ghost use Rattle.std.specs.Prelude.{◌≡◌, ℕ, Bool, suc, ◌<◌, true, length, Ok, Err, ◌≢◌};
+ghost use Rattle.std.specs.Prelude.{◌≡◌, ℕ, Bool, suc, ◌<◌, true, length, OnOk, ◌≢◌};
 ghost use Rattle.letters.specs.Kinds.{number};
 ghost use Rattle.grammar.specs.Parsers.{is_a, wanted, want};
 ghost use Rattle.grammar.specs.Sheets.{sum_sign, compares};
@@ -10,7 +10,7 @@ use crate::node::Node;
 use crate::parser::Parser;
 use letters::{Kind, Token};
 
-impl Parser<'_, '_> {
+impl Parser<'_, '_, '_> {
     // The token at hand; past the last, one at the text's end.
     fn peek(&self) -> Token
         ensures { result ≡ look (held self.now) (held self.now).at }
@@ -42,7 +42,7 @@ impl Parser<'_, '_> {
         self.sees(Kind::Plus) || self.sees(Kind::Minus)
     }
 
-    // The token at hand compares; `!=` does so only in a test.
+    // The token at hand compares; `!=` does so only in a test. A flag, since a test's signs and a condition's differ in that one alone: two functions would name the three others twice.
     fn sees_comparison(&self, tested: bool) -> bool
         ensures told { result ≡ compares tested (look (held self.now) (held self.now).at) }
         ensures inside { result ≡ true → (held self.now).at < token_count (held self.now) }
@@ -54,11 +54,11 @@ impl Parser<'_, '_> {
     }
 
     // The token at hand is a name or, where that may stand, `result`.
-    fn sees_quantity(&self, res: bool) -> bool
-        ensures told { result ≡ stood res (look (held self.now) (held self.now).at) }
+    fn sees_quantity(&self, with_result: bool) -> bool
+        ensures told { result ≡ stood with_result (look (held self.now) (held self.now).at) }
         ensures inside { result ≡ true → (held self.now).at < token_count (held self.now) }
     {
-        self.sees(Kind::Name) || res && self.sees(Kind::TheResult)
+        self.sees(Kind::Name) || with_result && self.sees(Kind::TheResult)
     }
 
     // Goes past the token at hand, which is not the end, and gives its number.
@@ -86,7 +86,7 @@ impl Parser<'_, '_> {
         requires { fits ≡ true → (held self.old).at < token_count (held self.old) }
         ensures went { (b : Token → Bool) → fits ≡ b (look (held self.old) (held self.old).at) → Went Taken result (λ _. wanted b) (held self.old) (held self.new) }
         ensures count { SameCount (held self.old) (held self.new) }
-        ensures past { elim result [ Ok a ↦ (held self.new).at ≡ suc (held self.old).at | Err e ↦ Unit {0} ] }
+        ensures past { OnOk result ((held self.new).at ≡ suc (held self.old).at) }
     {
         if fits {
             Ok(self.bump())
@@ -100,36 +100,35 @@ impl Parser<'_, '_> {
         requires { number kind ≢ number Kind.End }
         ensures went { Went Taken result (λ _. want kind) (held self.old) (held self.new) }
         ensures count { SameCount (held self.old) (held self.new) }
-        ensures past { elim result [ Ok a ↦ (held self.new).at ≡ suc (held self.old).at | Err e ↦ Unit {0} ] }
+        ensures past { OnOk result ((held self.new).at ≡ suc (held self.old).at) }
     {
         self.take_if(self.sees(kind))
     }
 
-    // Takes a comparison.
+    // Takes a comparison, by the flag of `sees_comparison`.
     pub(crate) fn comparison(&mut self, tested: bool) -> Result<usize, Misplaced>
         ensures went { Went Taken result (λ _. wanted (compares tested)) (held self.old) (held self.new) }
         ensures count { SameCount (held self.old) (held self.new) }
-        ensures past { elim result [ Ok a ↦ (held self.new).at ≡ suc (held self.old).at | Err e ↦ Unit {0} ] }
+        ensures past { OnOk result ((held self.new).at ≡ suc (held self.old).at) }
     {
         self.take_if(self.sees_comparison(tested))
     }
 
     // Takes a name or, where that may stand, `result`.
-    pub(crate) fn quantity(&mut self, res: bool) -> Result<usize, Misplaced>
-        ensures went { Went Taken result (λ _. wanted (stood res)) (held self.old) (held self.new) }
+    pub(crate) fn quantity(&mut self, with_result: bool) -> Result<usize, Misplaced>
+        ensures went { Went Taken result (λ _. wanted (stood with_result)) (held self.old) (held self.new) }
         ensures count { SameCount (held self.old) (held self.new) }
     {
-        self.take_if(self.sees_quantity(res))
+        self.take_if(self.sees_quantity(with_result))
     }
 
-    // Makes a node, for which a token was passed that no other node has, and gives its position.
+    // Makes a node, for which a token was passed that no other node has, so there is room for it, and gives its position.
     pub(crate) fn push(&mut self, node: Node) -> usize
         requires { length (held self.old).nodes < (held self.old).at }
         ensures { Pushed result node (held self.old) (held self.new) }
     {
-        let here = self.count;
-        self.nodes[here] = node;
-        self.count += 1;
+        let here = self.nodes.mark();
+        self.nodes.push(node).unwrap();
         here
     }
 }

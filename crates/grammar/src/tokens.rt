@@ -23,7 +23,7 @@ impl Tokens<'_> {
         self.tokens.get(at).copied().unwrap_or(Token::end(self.end))
     }
 
-    // The token with this number is of this kind, which is not the end's.
+    // The token with this number is of this kind, which is not the end's: an end stands past the last token, so of its kind the answer would not say that a token is there. A kind that a caller names meets the clause by computing; `sees` asks the same.
     pub(crate) fn stands(self, at: usize, kind: Kind) -> bool
         requires { number kind ≢ number Kind.End }
         ensures told { result ≡ is_a kind (look_in self.entry.tokens.now self.entry.end at) }
@@ -53,7 +53,7 @@ impl Tokens<'_> {
         }
     }
 
-    // The param that begins at this token, whatever stands there.
+    // The param that begins at this token, whatever stands there. It is public, for who wants a param's tokens, as `item_at` for an item's; names are read by the numbers of tokens.
     pub fn param_at(self, at: usize) -> ParamRead
         ensures read { param_at (look_in self.entry.tokens.now self.entry.end) at ≡ past (param_of result) (at + result.size) }
         ensures few { result.size ≤ 4 }

@@ -5,3 +5,4 @@ pub mod Belows
 pub mod Euclid
 pub mod Weighted
 pub mod Filling
+pub mod Limiting

@@ -1,5 +1,5 @@
 -- Tests of integers, and of every or some number below a bound.
-use Rattle.std.specs.Prelude.{ℕ, zero, suc, Bool, true, false, cond, ◌&&◌, ◌||◌, ℤ, pos, negsuc, int_le}
+use Rattle.std.specs.Prelude.{ℕ, zero, suc, Bool, true, false, cond, ◌&&◌, ◌||◌, List, [], ◌∷◌, ℤ, pos, negsuc, neg_ℤ, int_le}
 
 abbrev pub is_zero : ℤ → Bool
 is_zero (pos zero) = true
@@ -8,6 +8,14 @@ is_zero (negsuc n) = false
 
 abbrev pub eq_z : ℤ → ℤ → Bool
 eq_z a b = int_le a b && int_le b a
+
+-- z lies between -limit and limit
+abbrev pub within : ℤ → ℤ → Bool
+within limit z = int_le (neg_ℤ limit) z && int_le z limit
+
+unfoldable pub all_within : ℤ → List ℤ → Bool
+all_within limit [] = true
+all_within limit (z ∷ zs) = within limit z && all_within limit zs
 
 -- p holds of each number below n
 unfoldable pub all_below : ℕ → (ℕ → Bool) → Bool

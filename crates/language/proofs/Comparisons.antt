@@ -3,6 +3,7 @@ use Rattle.std.proofs.Common.{◌≡◌, ℕ, Bool, true, false, cond, not, ◌&
 use lib.Dec.{not_T}
 use Rattle.std.specs.List.{AllByRecursion}
 use Rattle.std.proofs.lemmas.Int.{ints}
+use Rattle.std.proofs.lemmas.Option.{none-some}
 use Rattle.ints.specs.Sums.{sum_to}
 use Rattle.ints.specs.Tests.{eq_z}
 use Rattle.rows.specs.declared.row.Row.{Row}
@@ -12,13 +13,12 @@ use Rattle.rows.specs.Rows.{row_of}
 use Rattle.rows.specs.Meaning.{Assignment, Holds, Meets, value}
 use Rattle.rows.proofs.Making.{made-fields}
 use Rattle.language.specs.declared.term.Term.{Term}
-use Rattle.language.specs.declared.sign.Comparison.{Comparison}
-use Rattle.language.specs.declared.sign.Comparison.TheVariants.{Less, LessOrEqual, Equal, NotEqual}
+use Rattle.language.specs.declared.comparison.Comparison.{Comparison}
+use Rattle.language.specs.declared.comparison.Comparison.TheVariants.{Less, LessOrEqual, Equal, NotEqual}
 use Rattle.language.specs.Vocabulary.{holds}
 use Rattle.language.specs.Tree.{Atom, one, named, result, Side, Condition}
 use Rattle.language.specs.Terms.{minus, scaled, worth, fits_term}
 use Rattle.language.specs.Comparing.{at_most, unequal, rows, otherwise, side_value, satisfied, atom_value, atom_term, side_term, condition_rows}
-use Rattle.language.proofs.Tests.{none-some}
 use Rattle.language.proofs.Worths.{worth-constant, worth-plus, worth-minus, worth-scaled, worths-at, Agree, Stable, StableAll, stable-constant, stable-plus, stable-scaled}
 
 -- the sum of a row that was made of two terms

@@ -6,7 +6,8 @@ use Rattle.std.proofs.lemmas.Int.{ints}
 use Rattle.rows.specs.declared.row.Row.{Row}
 use Rattle.rows.specs.Meaning.{Assignment, Within, MeetsAll, Follows}
 use Rattle.language.specs.declared.term.Term.{Term}
-use Rattle.language.specs.declared.owed.Duty.TheVariants.{Below, Above, Guard}
+use Rattle.language.specs.declared.check.Check.TheVariants.{Below, Above}
+use Rattle.language.specs.declared.duty.Duty.TheVariants.{Check, Guard}
 use Rattle.language.specs.declared.refusal.Refusal.{Refusal}
 use Rattle.language.specs.Tree.{Condition, Site}
 use Rattle.language.specs.Terms.{zero_term, worth}
@@ -87,7 +88,7 @@ module _ (low high : ℤ) (S : Dropped) where
       pub above : T (S (suc k)) → T (lt_z (worth q t) (worth q u))
 
     two-pass : (place work : ℕ) (F : List Row) → MeetsAll q F → (k : ℕ) (t u : Term) (x y : Option Row) → at_most (pos 0) zero_term t ≡ x → at_most (pos 1) t u ≡ y
-        → AllByRecursion (Fine low high S) ((owe Below place work F k x).notes ++ (owe Above place work F (owe Below place work F k x).count y).notes) → Passing k t u
+        → AllByRecursion (Fine low high S) ((owe (Check Below) place work F k x).notes ++ (owe (Check Above) place work F (owe (Check Below) place work F k x).count y).notes) → Passing k t u
     unfolding owe
     two-pass place work F f k t u None y ex ey h = absurd h.0
     two-pass place work F f k t u (Some r) None ex ey h = absurd h.1.0

@@ -5,6 +5,7 @@ use Rattle.std.specs.List.{AllByRecursion}
 use Rattle.std.proofs.ByRecursion.{All-weaker}
 use Rattle.std.proofs.lemmas.Int.{ints}
 use Rattle.std.proofs.lemmas.Bool.{true≢false, false≢true}
+use Rattle.std.proofs.lemmas.Option.{none-some}
 use Rattle.language.specs.declared.part.Part.{Part}
 use Rattle.language.specs.Tree.{Condition, Param, a_number, a_list, Rule, rule_at, at_lists}
 use Rattle.language.specs.Comparing.{satisfied}
@@ -15,7 +16,7 @@ use Rattle.language.specs.Entering.{gathered, every, part_fits, allowed, first_b
 use Rattle.language.specs.Promise.{Sound, DropsListed, Agrees}
 use Rattle.language.proofs.Same.{as_book, full, Ends, Both}
 use Rattle.language.proofs.Induction.{Good, PartOk, Inputs, BodyOk, run_sound, enter-sound}
-use Rattle.language.proofs.Tests.{both-from, both_left, both_right, cond-some, none-some}
+use Rattle.language.proofs.Tests.{both-from, both_left, both_right, cond-some}
 
 every-all : {A : Type 0} (p : A → Bool) (xs : List A) → T (every p xs) → AllByRecursion (λ x. T (p x)) xs
 unfolding every

@@ -11,15 +11,15 @@ use Rattle.rows.specs.Limits.{small, all_small, fits}
 use Rattle.rows.specs.Rows.{row_of}
 use Rattle.rows.proofs.Making.{made_some}
 use Rattle.language.specs.declared.term.Term.{Term}
-use Rattle.language.specs.declared.sign.Comparison.{Comparison}
-use Rattle.language.specs.declared.sign.Comparison.TheVariants.{Less, LessOrEqual, Equal, NotEqual}
+use Rattle.language.specs.declared.comparison.Comparison.{Comparison}
+use Rattle.language.specs.declared.comparison.Comparison.TheVariants.{Less, LessOrEqual, Equal, NotEqual}
 use Rattle.language.specs.Terms.{coef_of, each, minus, near, all_near, fits_term, constant, zero_term, quantity, plus, scaled, term_at, is_constant, limited, worked}
-use Rattle.language.specs.declared.sign.Operator.{Operator}
-use Rattle.language.specs.declared.sign.Operator.TheVariants.{Sum, Difference, Product}
+use Rattle.language.specs.declared.operator.Operator.{Operator}
+use Rattle.language.specs.declared.operator.Operator.TheVariants.{Sum, Difference, Product}
 use Rattle.language.specs.Tree.{Condition, Expr, num, name, calc, read, call, bind, test, put, claim, Rule}
 use Rattle.language.specs.Walking.{Note, Stand, Scope, Found, binding, fresh, fresh_with, or_fresh, Mode, infer, check, finish, join, walk, TermsFit}
-use Rattle.language.proofs.Tests.{none-some}
 use Rattle.std.proofs.ByRecursion.{All-push}
+use Rattle.std.proofs.lemmas.Option.{none-some}
 use Rattle.language.specs.Comparing.{at_most, unequal, rows, RowsFit}
 
 near-is : (z : ℤ) → near z ≡ true → Near 1000000 z

@@ -1,12 +1,12 @@
 -- How notes and runs are put together, step by step.
 use Rattle.std.proofs.Common.{◌≡◌, ℕ, Bool, true, false, cond, ltb, List, [], ◌∷◌, ◌++◌, Some, None, sym, refl, ap}
+use Rattle.std.proofs.lemmas.Option.{none-some}
 use Rattle.language.specs.declared.ending.Ending.{Ending}
 use Rattle.language.specs.declared.refusal.Refusal.{Refusal}
 use Rattle.language.specs.declared.refusal.Refusal.TheVariants.{Full}
 use Rattle.language.specs.Limits.{most_obligations}
 use Rattle.language.specs.Walking.{Note, owes, fault, first_fault}
 use Rattle.language.specs.Running.{Event, came, called, returned, State, Outcome, done, stop, wild, Ran, Run, after, ◌>>=◌, made_in}
-use Rattle.language.proofs.Tests.{none-some}
 
 -- the first fault of notes is that of the first part, or else of the rest
 pub fault-first : (ns bs : List Note) (r : Refusal) → first_fault ns ≡ Some r → first_fault (ns ++ bs) ≡ Some r

@@ -2,6 +2,7 @@
 use Rattle.std.proofs.Common.{◌≡◌, ℕ, zero, suc, ◌+◌, ◌<◌, Bool, true, false, cond, not, ◌&&◌, T, ltb, List, [], ◌∷◌, ◌++◌, length, get_or, ℤ, Some, None, Option, sym, refl, ap, ◌∙◌, subst, add-zero, add-suc, suc-add, zero-add, arith}
 use Rattle.std.specs.List.{AllByRecursion, slice_get}
 use Rattle.std.proofs.lemmas.Bool.{true≢false, false≢true}
+use Rattle.std.proofs.lemmas.Option.{none-some}
 use Rattle.rows.specs.Meaning.{Follows}
 use Rattle.language.specs.declared.refusal.Refusal.{Refusal}
 use Rattle.language.specs.declared.refusal.Refusal.TheVariants.{Closed, Full}
@@ -13,7 +14,7 @@ use Rattle.language.specs.Histories.{on}
 use Rattle.language.specs.Promise.{Answers}
 use Rattle.language.proofs.Walks.{Counts}
 use Rattle.language.proofs.Duties.{all_left, all_right, Fine}
-use Rattle.language.proofs.Tests.{cond-none, none-some}
+use Rattle.language.proofs.Tests.{cond-none}
 
 -- what the first open guard from k on says
 pub record Opened (S : Dropped) (k : ℕ) (os : List Obligation) (r : Refusal) : Type 0 where

@@ -8,8 +8,8 @@ use Rattle.std.proofs.lemmas.Bool.{lt-ltb}
 use Rattle.language.specs.declared.part.Part.{Part}
 use Rattle.language.specs.declared.ending.Ending.{Ending}
 use Rattle.language.specs.declared.ending.Ending.TheVariants.{Spent, Range}
-use Rattle.language.specs.declared.owed.Check.{Check}
-use Rattle.language.specs.declared.owed.Check.TheVariants.{Below, Above}
+use Rattle.language.specs.declared.check.Check.{Check}
+use Rattle.language.specs.declared.check.Check.TheVariants.{Below, Above}
 use Rattle.language.specs.Vocabulary.{check_ending}
 use Rattle.language.specs.Tree.{Site}
 use Rattle.language.specs.Running.{Event, came, called, returned, State, Outcome, done, stop, wild, Ran, Run, quiet, give, halt, emit, after, ◌>>=◌, spend, in_range, Dropped, check, cell_of, inside, load, store, touch, Program, fit}

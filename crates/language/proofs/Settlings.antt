@@ -6,6 +6,7 @@ use Rattle.std.specs.List.{slice_get}
 use Rattle.std.proofs.lemmas.List.{get_or-set_same, get_or-set_other, length-set, length-replicate}
 use Rattle.std.proofs.lemmas.Int.{ints}
 use Rattle.std.proofs.lemmas.Bool.{cases_eq, eq-eqb, ne_eqb}
+use Rattle.std.proofs.lemmas.Option.{none-some}
 use Rattle.rows.specs.Meaning.{Follows}
 use Rattle.domains.specs.Faults.{Outcome, Good}
 use Rattle.language.specs.declared.refusal.Refusal.TheVariants.{Narrow}
@@ -13,7 +14,7 @@ use Rattle.language.specs.Walking.{Obligation}
 use Rattle.language.specs.Drafts.{Sheet, Draft, draft_of, Domain, Prover, wide, judged, verified, asked, settle, mark_if, settled, marked}
 use Rattle.language.specs.Histories.{Step, settling, ready, draft_after, good_proposal, good_for, good, plain_after, on}
 use Rattle.language.specs.Promise.{GoodSettling, HadGood}
-use Rattle.language.proofs.Tests.{both-from, both_left, both_right, none-some}
+use Rattle.language.proofs.Tests.{both-from, both_left, both_right}
 
 -- a settling is good by its test just where it is good
 good-proposal : (d : Domain) (o : Obligation) (c : Option (List ℕ)) → T (good_proposal d o c) → (x : List ℕ) × (c ≡ Some x) × Good (d.outcome o.facts o.goal x)

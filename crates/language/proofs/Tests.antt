@@ -1,5 +1,6 @@
 -- What tests that passed, and options that are none, say.
-use Rattle.std.proofs.Common.{◌≡◌, ℕ, Bool, true, false, cond, ◌&&◌, T, Some, None, Option, sym, arith}
+use Rattle.std.proofs.Common.{◌≡◌, Bool, true, false, cond, ◌&&◌, T, Some, None, Option, sym}
+use Rattle.std.proofs.lemmas.Option.{none-some}
 
 pub both_left : (a b : Bool) → T (a && b) → T a
 both_left true b t = tt
@@ -12,9 +13,6 @@ both_right false b t = absurd t
 pub both-from : (a b : Bool) → T a → T b → T (a && b)
 both-from true b h k = k
 both-from false b h k = absurd h
-
-pub none-some : {A : Type 0} (x : A) → None ≡ Some x → ⊥
-none-some x e = let no : ◌≡◌ {A = ℕ} 0 1 = cc in let bad : ⊥ = omega arith in bad
 
 pub cond-none : {A : Type 0} (b : Bool) (o : Option A) (x : A) → cond b o (Some x) ≡ None → T b × (o ≡ None)
 cond-none true o x e = (tt, e)

@@ -5,8 +5,9 @@ use Rattle.std.proofs.ByRecursion.{All-push, All-weaker}
 use Rattle.rows.specs.declared.row.Row.{Row}
 use Rattle.rows.specs.Meaning.{Assignment, Meets, MeetsAll}
 use Rattle.language.specs.declared.term.Term.{Term}
-use Rattle.language.specs.declared.owed.Duty.{Duty}
-use Rattle.language.specs.declared.owed.Duty.TheVariants.{Below, Above, Guard}
+use Rattle.language.specs.declared.duty.Duty.{Duty}
+use Rattle.language.specs.declared.check.Check.TheVariants.{Below, Above}
+use Rattle.language.specs.declared.duty.Duty.TheVariants.{Check, Guard}
 use Rattle.language.specs.declared.refusal.Refusal.{Refusal}
 use Rattle.language.specs.Tree.{Condition, Site, Expr, num, name, calc, read, call, bind, test, put, claim, Args, end, value, lent, Rule, rule_at}
 use Rattle.language.specs.Terms.{zero_term, quantity, worth, term_at, worked, constant, limited}
@@ -94,8 +95,8 @@ numbered-owe_all place F k (r ∷ rs) =
 numbered-owe_checks : (site : Site) (work : ℕ) (s : Stand) (t u : Term) → Numbered s.count (owe_checks site work s t u).notes (owe_checks site work s t u).count
 unfolding owe_checks
 numbered-owe_checks site work s t u =
-    let b = owe Below site.place work s.facts s.count (at_most (pos 0) zero_term t) in
-    numbered-append b.count b.notes _ (numbered-owe Below site.place work s.facts s.count (at_most (pos 0) zero_term t)) (numbered-owe Above site.place work s.facts b.count (at_most (pos 1) t u))
+    let b = owe (Check Below) site.place work s.facts s.count (at_most (pos 0) zero_term t) in
+    numbered-append b.count b.notes _ (numbered-owe (Check Below) site.place work s.facts s.count (at_most (pos 0) zero_term t)) (numbered-owe (Check Above) site.place work s.facts b.count (at_most (pos 1) t u))
 
 pub numbered-assume : (k place : ℕ) (F : List Row) (rs : List (Option Row)) → Numbered k (assume place F rs).notes k
 unfolding assume

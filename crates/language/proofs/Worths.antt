@@ -9,8 +9,8 @@ use Rattle.ints.proofs.Products.{mul-sum, mul-mul}
 use Rattle.ints.proofs.Sums.{sum_same, at_sum, at-neg, at-zeros, at_none}
 use Rattle.rows.specs.Meaning.{Assignment}
 use Rattle.language.specs.declared.term.Term.{Term}
-use Rattle.language.specs.declared.sign.Operator.{Operator}
-use Rattle.language.specs.declared.sign.Operator.TheVariants.{Sum, Difference, Product}
+use Rattle.language.specs.declared.operator.Operator.{Operator}
+use Rattle.language.specs.declared.operator.Operator.TheVariants.{Sum, Difference, Product}
 use Rattle.language.specs.Vocabulary.{reckoned}
 use Rattle.language.specs.Terms.{coef_of, each, constant, quantity, plus, minus, scaled, worth, term_at, fits_term, is_constant, limited, worked}
 

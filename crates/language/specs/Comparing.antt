@@ -5,8 +5,8 @@ use Rattle.rows.specs.declared.row.Row.{Row}
 use Rattle.rows.specs.declared.row.Kind.TheVariants.{AtMost, Unequal}
 use Rattle.rows.specs.Rows.{row_of}
 use Rattle.language.specs.declared.term.Term.{Term}
-use Rattle.language.specs.declared.sign.Comparison.{Comparison}
-use Rattle.language.specs.declared.sign.Comparison.TheVariants.{Less, LessOrEqual, Equal, NotEqual}
+use Rattle.language.specs.declared.comparison.Comparison.{Comparison}
+use Rattle.language.specs.declared.comparison.Comparison.TheVariants.{Less, LessOrEqual, Equal, NotEqual}
 use Rattle.language.specs.Vocabulary.{holds}
 use Rattle.language.specs.Tree.{Atom, one, named, result, Side, Condition}
 use Rattle.language.specs.Terms.{constant, zero_term, plus, minus, scaled, term_at, fits_term}

@@ -3,8 +3,8 @@ use Rattle.std.specs.Prelude.{ℕ, suc, Bool, true, false, cond, not, ◌&&◌, 
 use Rattle.std.specs.List.{slice_get}
 use Rattle.rows.specs.declared.row.Row.{Row}
 use Rattle.domains.specs.Faults.{Outcome}
-use Rattle.language.specs.declared.owed.Duty.{Duty}
-use Rattle.language.specs.declared.owed.Duty.TheVariants.{Below, Above, Guard}
+use Rattle.language.specs.declared.duty.Duty.{Duty}
+use Rattle.language.specs.declared.duty.Duty.TheVariants.{Check, Guard}
 use Rattle.language.specs.declared.refusal.Refusal.{Refusal}
 use Rattle.language.specs.declared.refusal.Refusal.TheVariants.{Range, Number, Narrow, Unproved, Closed}
 use Rattle.language.specs.Tree.{Expr, Rule}
@@ -87,8 +87,7 @@ settled draft n d p = record { sheet = draft.sheet; marks = mark_if (settle draf
 
 -- Ready: the first guard from the number k on that is not marked
 abbrev pub is_guard : Duty → Bool
-is_guard Below = false
-is_guard Above = false
+is_guard (Check c) = false
 is_guard Guard = true
 
 abbrev pub marked : List Bool → Dropped

@@ -2,13 +2,14 @@
 use Rattle.std.specs.Prelude.{◌≡◌, ℕ, Bool, true, false, List, [], ◌∷◌, map, take, replicate, ℤ, pos, negsuc}
 use Rattle.rows.specs.declared.row.Row.{Row}
 use Rattle.language.specs.declared.part.Part.{Part}
-use Rattle.language.specs.declared.owed.Duty.{Duty}
-use Rattle.language.specs.declared.owed.Duty.TheVariants as Duties
+use Rattle.language.specs.declared.check.Check.TheVariants as Checks
+use Rattle.language.specs.declared.duty.Duty.{Duty}
+use Rattle.language.specs.declared.duty.Duty.TheVariants as Duties
 use Rattle.language.specs.declared.ending.Ending.{Ending}
 use Rattle.language.specs.declared.ending.Ending.TheVariants.{Value, Spent, Deep, Above}
 use Rattle.language.specs.declared.refusal.Refusal.TheVariants.{Closed, Needs}
-use Rattle.language.specs.declared.sign.Operator.TheVariants.{Sum, Product}
-use Rattle.language.specs.declared.sign.Comparison.TheVariants.{Less, LessOrEqual}
+use Rattle.language.specs.declared.operator.Operator.TheVariants.{Sum, Product}
+use Rattle.language.specs.declared.comparison.Comparison.TheVariants.{Less, LessOrEqual}
 use Rattle.language.specs.Tree.{one, named, result, Side, Site, num, name, calc, read, call, bind, test, put, claim, end, value, lent, a_number, a_list, Rule}
 use Rattle.language.specs.Walking.{Obligation}
 use Rattle.language.specs.Drafts.{Sheet, sheet_of}
@@ -92,8 +93,8 @@ total_facts = row (pos 0) (negsuc 0) (pos 0) (pos 0) ∷ row (pos 0) (pos 0) (ne
 -- 0 <= n, then 0 <= i and i < n; the index i of total's read, then the argument i + 1 of its call
 abbrev pub total_owes : List Shown
 total_owes =
-    owed Duties.Below 49 total_facts (row (pos 0) (pos 0) (negsuc 0) (pos 0))
-    ∷ owed Duties.Above 49 total_facts (row (negsuc 0) (negsuc 0) (pos 1) (pos 0))
+    owed (Duties.Check Checks.Below) 49 total_facts (row (pos 0) (pos 0) (negsuc 0) (pos 0))
+    ∷ owed (Duties.Check Checks.Above) 49 total_facts (row (negsuc 0) (negsuc 0) (pos 1) (pos 0))
     ∷ owed Duties.Guard 56 total_facts (row (pos 1) (pos 0) (negsuc 0) (pos 0))
     ∷ []
 
@@ -104,8 +105,8 @@ mark_facts = row (pos 0) (negsuc 0) (pos 0) (pos 0) ∷ row (pos 0) (pos 0) (pos
 abbrev pub mark_owes : List Shown
 mark_owes =
     owed Duties.Guard 50 (row (pos 0) (negsuc 0) (pos 0) (pos 0) ∷ []) (row (pos 0) (pos 0) (pos 0) (negsuc 0))
-    ∷ owed Duties.Below 77 mark_facts (row (pos 0) (pos 0) (pos 0) (negsuc 0))
-    ∷ owed Duties.Above 77 mark_facts (row (negsuc 0) (negsuc 0) (pos 0) (pos 1))
+    ∷ owed (Duties.Check Checks.Below) 77 mark_facts (row (pos 0) (pos 0) (pos 0) (negsuc 0))
+    ∷ owed (Duties.Check Checks.Above) 77 mark_facts (row (negsuc 0) (negsuc 0) (pos 0) (pos 1))
     ∷ owed Duties.Guard 104 (row (pos 0) (negsuc 0) (pos 0) (pos 0) ∷ row (pos 0) (pos 0) (pos 0) (negsuc 0) ∷ row (negsuc 0) (negsuc 0) (pos 0) (pos 1) ∷ []) (row (pos 0) (negsuc 0) (pos 0) (pos 1))
     ∷ owed Duties.Guard 111 (row (pos 0) (negsuc 0) (pos 0) (pos 0) ∷ row (pos 0) (pos 0) (pos 0) (negsuc 0) ∷ row (pos 0) (pos 1) (pos 0) (negsuc 0) ∷ []) (row (pos 0) (pos 0) (pos 0) (pos 0))
     ∷ []

@@ -3,8 +3,8 @@ use Rattle.std.specs.Prelude.{ℕ, zero, suc, ◌+◌, Bool, true, false, cond, 
 use Rattle.language.specs.declared.part.Part.{Part}
 use Rattle.language.specs.declared.ending.Ending.{Ending}
 use Rattle.language.specs.declared.ending.Ending.TheVariants.{Spent, Deep, Range}
-use Rattle.language.specs.declared.owed.Check.{Check}
-use Rattle.language.specs.declared.owed.Check.TheVariants.{Below, Above}
+use Rattle.language.specs.declared.check.Check.{Check}
+use Rattle.language.specs.declared.check.Check.TheVariants.{Below, Above}
 use Rattle.language.specs.Vocabulary.{check_ending, reckoned, holds}
 use Rattle.language.specs.Tree.{Site, Expr, num, name, calc, read, call, bind, test, put, claim, Args, end, value, lent, place_of, no_expr, lent_of}
 

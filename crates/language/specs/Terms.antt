@@ -5,8 +5,8 @@ use Rattle.ints.specs.Sums.{sum_to}
 use Rattle.ints.specs.Tests.{is_zero, all_below}
 use Rattle.rows.specs.Meaning.{Assignment}
 use Rattle.language.specs.declared.term.Term.{Term}
-use Rattle.language.specs.declared.sign.Operator.{Operator}
-use Rattle.language.specs.declared.sign.Operator.TheVariants.{Sum, Difference, Product}
+use Rattle.language.specs.declared.operator.Operator.{Operator}
+use Rattle.language.specs.declared.operator.Operator.TheVariants.{Sum, Difference, Product}
 use Rattle.language.specs.Limits.{quantities, term_limit}
 
 abbrev pub coef_of : Term → ℕ → ℤ

@@ -1,7 +1,7 @@
 -- The tree of a sheet, its names resolved to slots: rules, expressions and conditions, with their places in the text.
 use Rattle.std.specs.Prelude.{ℕ, List, [], ◌∷◌, ℤ, slice_index_or}
-use Rattle.language.specs.declared.sign.Operator.{Operator}
-use Rattle.language.specs.declared.sign.Comparison.{Comparison}
+use Rattle.language.specs.declared.operator.Operator.{Operator}
+use Rattle.language.specs.declared.comparison.Comparison.{Comparison}
 
 -- an item of a side is a factor times one, a name's number or the result
 pub data Atom : Type 0 where

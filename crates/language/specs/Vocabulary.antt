@@ -7,14 +7,14 @@ use Rattle.language.specs.declared.refusal.Refusal.{Refusal}
 use Rattle.language.specs.declared.refusal.Refusal.TheVariants as Refusals
 use Rattle.language.specs.declared.ending.Ending.{Ending}
 use Rattle.language.specs.declared.ending.Ending.TheVariants as Endings
-use Rattle.language.specs.declared.owed.Check.{Check}
-use Rattle.language.specs.declared.owed.Check.TheVariants as Checks
-use Rattle.language.specs.declared.owed.Duty.{Duty}
-use Rattle.language.specs.declared.owed.Duty.TheVariants as Duties
-use Rattle.language.specs.declared.sign.Operator.{Operator}
-use Rattle.language.specs.declared.sign.Operator.TheVariants.{Sum, Difference, Product}
-use Rattle.language.specs.declared.sign.Comparison.{Comparison}
-use Rattle.language.specs.declared.sign.Comparison.TheVariants.{Less, LessOrEqual, Equal, NotEqual}
+use Rattle.language.specs.declared.check.Check.{Check}
+use Rattle.language.specs.declared.check.Check.TheVariants as Checks
+use Rattle.language.specs.declared.duty.Duty.{Duty}
+use Rattle.language.specs.declared.duty.Duty.TheVariants as Duties
+use Rattle.language.specs.declared.operator.Operator.{Operator}
+use Rattle.language.specs.declared.operator.Operator.TheVariants.{Sum, Difference, Product}
+use Rattle.language.specs.declared.comparison.Comparison.{Comparison}
+use Rattle.language.specs.declared.comparison.Comparison.TheVariants.{Less, LessOrEqual, Equal, NotEqual}
 
 abbrev pub refusal_number : Refusal → ℕ
 refusal_number Refusals.Range = 1
@@ -122,8 +122,7 @@ check_ending Checks.Below = Endings.Below
 check_ending Checks.Above = Endings.Above
 
 abbrev pub duty_word : Duty → List ℕ
-duty_word Duties.Below = codes "below"
-duty_word Duties.Above = codes "above"
+duty_word (Duties.Check c) = check_word c
 duty_word Duties.Guard = codes "guard"
 
 abbrev pub operator_word : Operator → List ℕ

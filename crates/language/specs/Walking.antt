@@ -4,8 +4,9 @@ use Rattle.std.specs.Prelude.{◌≡◌, ℕ, suc, Bool, true, false, cond, ◌&
 use Rattle.std.specs.List.{range_with_len, AllByRecursion}
 use Rattle.rows.specs.declared.row.Row.{Row}
 use Rattle.language.specs.declared.term.Term.{Term}
-use Rattle.language.specs.declared.owed.Duty.{Duty}
-use Rattle.language.specs.declared.owed.Duty.TheVariants.{Below, Above, Guard}
+use Rattle.language.specs.declared.duty.Duty.{Duty}
+use Rattle.language.specs.declared.check.Check.TheVariants.{Below, Above}
+use Rattle.language.specs.declared.duty.Duty.TheVariants.{Check, Guard}
 use Rattle.language.specs.declared.refusal.Refusal.{Refusal}
 use Rattle.language.specs.declared.refusal.Refusal.TheVariants.{Name, Full, Large}
 use Rattle.language.specs.Limits.{quantities, most_facts, most_obligations}
@@ -106,8 +107,8 @@ assume_all at ts r facts (c ∷ cs) =
 -- the two checks of an index
 unfoldable pub owe_checks : Site → ℕ → Stand → Term → Term → Owing
 owe_checks site work s index length =
-    let b = owe Below site.place work s.facts s.count (at_most (pos 0) zero_term index) in
-    let a = owe Above site.place work s.facts b.count (at_most (pos 1) index length) in
+    let b = owe (Check Below) site.place work s.facts s.count (at_most (pos 0) zero_term index) in
+    let a = owe (Check Above) site.place work s.facts b.count (at_most (pos 1) index length) in
     record { count = a.count; notes = b.notes ++ a.notes }
 
 abbrev pub numbered : Site → ℕ → Site

@@ -43,7 +43,7 @@ impl fmt::Display for Ending {
     }
 }
 
-// The end of a run: a value has place 0, a stop has value 0. It is shown in a line with 0 for what it does not give, so it is one struct, as in the definitions.
+// The end of a run: a value has place 0, a stop has value 0. It is shown in a line with 0 for what it does not give, so it is one struct.
 #[derive(Clone, Copy, Debug, PartialEq, Eq)]
 pub struct End {
     pub kind: Ending,

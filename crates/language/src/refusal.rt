@@ -135,6 +135,7 @@ impl Refusal {
     }
 }
 
+// Display and Error by hand: what is printed is promised, which a derive of thiserror does not do.
 impl fmt::Display for Refusal {
     ghost output = { λ refusal. Some (refusal_word refusal) };
 

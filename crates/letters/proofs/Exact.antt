@@ -11,7 +11,7 @@ use Rattle.letters.specs.declared.kind.Kind.TheVariants.{Name, Numeral}
 use Rattle.letters.specs.declared.token.Token.{Token}
 use Rattle.letters.specs.declared.misspelt.Misspelt.TheVariants.{Letter}
 use Rattle.letters.specs.Bytes.{is_blank, is_letter, is_digit, EachLetter, EachDigit, lead_of, Gap, Word, Number, Sign}
-use Rattle.letters.specs.Cuts.{word_by, numeral_by, piece_by, piece_of}
+use Rattle.letters.specs.Cuts.{word_by, numeral_by, some_token, piece_by, piece_of}
 use Rattle.letters.specs.Kinds.{word, keyword_of}
 use Rattle.letters.specs.Spelling.{Spelt, name, numeral, fixed, by-letter, by-digit, Longest, Stuck}
 use Rattle.letters.specs.Tokens.{token_of}
@@ -42,16 +42,16 @@ module _ (i : ℕ) (w after : List ℕ) (some : 0 < length w) (far : Longest w a
   word_piece a l =
       let n = run-exact is_letter w after a (ends-run is_letter after (λ b more e h. far b more e (by-letter a h))) in
       ap (λ d. piece_by d i (w ++ after)) (letter-leads (get_or (w ++ after) 0 0) (first_of (λ b. is_letter b ≡ true) w after some a))
-      ∙ ap (word_by i (w ++ after)) n
-      ∙ ap₂ (λ t (v : List ℕ). cond t (Ok (Some (token_of (keyword_of v) i (length w) 0))) (Err (Letter i))) (le-leb (length w) 16 l) (take_at w after (length w) refl)
+      ∙ ap (λ m. some_token (word_by i (w ++ after) m)) n
+      ∙ ap₂ (λ t (v : List ℕ). some_token (cond t (Ok (token_of (keyword_of v) i (length w) 0)) (Err (Letter i)))) (le-leb (length w) 16 l) (take_at w after (length w) refl)
 
   numeral-piece : EachDigit w → length w ≤ 6 → piece_of i (w ++ after) ≡ Ok (Some (token_of Numeral i (length w) (digits_value 10 w)))
   unfolding piece_of
   numeral-piece a l =
       let n = run-exact is_digit w after a (ends-run is_digit after (λ b more e h. far b more e (by-digit a h))) in
       ap (λ d. piece_by d i (w ++ after)) (digit-leads (get_or (w ++ after) 0 0) (first_of (λ b. is_digit b ≡ true) w after some a))
-      ∙ ap (numeral_by i (w ++ after)) n
-      ∙ ap₂ (λ t (v : List ℕ). cond t (Ok (Some (token_of Numeral i (length w) (digits_value 10 v)))) (Err (Letter i))) (le-leb (length w) 6 l) (take_at w after (length w) refl)
+      ∙ ap (λ m. some_token (numeral_by i (w ++ after) m)) n
+      ∙ ap₂ (λ t (v : List ℕ). some_token (cond t (Ok (token_of Numeral i (length w) (digits_value 10 v))) (Err (Letter i)))) (le-leb (length w) 6 l) (take_at w after (length w) refl)
 
 -- a keyword or a sign
 fixed-piece : (i : ℕ) (after : List ℕ) (k : Kind) → 0 < length (word k) → Longest (word k) after → piece_of i (word k ++ after) ≡ Ok (Some (token_of k i (length (word k)) 0))

@@ -12,7 +12,7 @@ use Rattle.letters.specs.declared.kind.Kind.TheVariants.{Name, Numeral}
 use Rattle.letters.specs.declared.token.Token.{Token}
 use Rattle.letters.specs.declared.misspelt.Misspelt.TheVariants.{Letter}
 use Rattle.letters.specs.Bytes.{is_blank, is_letter, is_digit, EachLetter, EachDigit, Gap, Word, Number, Sign}
-use Rattle.letters.specs.Cuts.{word_at, numeral_at, sign_of, sign_by, sign_at, piece_by, piece_of}
+use Rattle.letters.specs.Cuts.{word_at, numeral_at, sign_of, sign_by, sign_at, some_token, piece_by, piece_of}
 use Rattle.letters.specs.Kinds.{word, keyword_of, keywords, written_so}
 use Rattle.letters.specs.Spelling.{Spelt, name, numeral, fixed, Grows, by-letter, by-digit, to-sign, Longest}
 use Rattle.letters.specs.Tokens.{token_of}
@@ -85,10 +85,10 @@ module _ (i : ℕ) (bs : List ℕ) (full : 0 < length bs) where
   word-spelt w n a l (inl h) = name h a l h refl
   word-spelt w n a l (inr h) = fixed h refl
 
-  word_good : is_letter (get_or bs 0 0) ≡ true → (t : Token) → word_at i bs ≡ Ok (Some t) → Good i bs t
+  word_good : is_letter (get_or bs 0 0) ≡ true → (t : Token) → some_token (word_at i bs) ≡ Ok (Some t) → Good i bs t
   word_good f t e = go (leb (prefix_len is_letter bs) 16) refl e
     where
-      go : (s : Bool) → leb (prefix_len is_letter bs) 16 ≡ s → cond s (Ok (Some (token_of (keyword_of (take (prefix_len is_letter bs) bs)) i (prefix_len is_letter bs) 0))) (Err (Letter i)) ≡ Ok (Some t) → Good i bs t
+      go : (s : Bool) → leb (prefix_len is_letter bs) 16 ≡ s → some_token (cond s (Ok (token_of (keyword_of (take (prefix_len is_letter bs) bs)) i (prefix_len is_letter bs) 0)) (Err (Letter i))) ≡ Ok (Some t) → Good i bs t
       go true q h =
           let fits = prefix_len-le-length is_letter bs in
           let long = length-take-le (prefix_len is_letter bs) bs fits in
@@ -97,10 +97,10 @@ module _ (i : ℕ) (bs : List ℕ) (full : 0 < length bs) where
           subst (Good i bs) same (record { place = refl; some = run-some is_letter bs full f; fits = fits; spelt = word-spelt (take (prefix_len is_letter bs) bs) _ (run-passes is_letter bs) (omega arith) (written_as (take (prefix_len is_letter bs) bs) keywords); longest = word-longest f })
       go false q h = let no : ◌≡◌ {A = ℕ} 0 1 = cc in let bad : ⊥ = omega arith in absurd bad
 
-  numeral-good : is_digit (get_or bs 0 0) ≡ true → (t : Token) → numeral_at i bs ≡ Ok (Some t) → Good i bs t
+  numeral-good : is_digit (get_or bs 0 0) ≡ true → (t : Token) → some_token (numeral_at i bs) ≡ Ok (Some t) → Good i bs t
   numeral-good f t e = go (leb (prefix_len is_digit bs) 6) refl e
     where
-      go : (s : Bool) → leb (prefix_len is_digit bs) 6 ≡ s → cond s (Ok (Some (token_of Numeral i (prefix_len is_digit bs) (digits_value 10 (take (prefix_len is_digit bs) bs))))) (Err (Letter i)) ≡ Ok (Some t) → Good i bs t
+      go : (s : Bool) → leb (prefix_len is_digit bs) 6 ≡ s → some_token (cond s (Ok (token_of Numeral i (prefix_len is_digit bs) (digits_value 10 (take (prefix_len is_digit bs) bs)))) (Err (Letter i))) ≡ Ok (Some t) → Good i bs t
       go true q h =
           let fits = prefix_len-le-length is_digit bs in
           let long = length-take-le (prefix_len is_digit bs) bs fits in
@@ -152,10 +152,10 @@ module _ (i : ℕ) (bs : List ℕ) (full : 0 < length bs) where
         (λ d h. no_digit 2 (omega arith) fits (subst EachDigit (sym two) d))
         (λ c p m h. let no : ◌≡◌ {A = ℕ} 2 1 = ap length p in omega arith))
 
-    sign-good : (t : Token) → sign_at i bs ≡ Ok (Some t) → Good i bs t
+    sign-good : (t : Token) → some_token (sign_at i bs) ≡ Ok (Some t) → Good i bs t
     sign-good t e = go (sign_of (get_or bs 0 0) (eqb (get_or bs 1 0) 61)) refl e
       where
-        go : (o : Option Kind) → sign_of (get_or bs 0 0) (eqb (get_or bs 1 0) 61) ≡ o → sign_by i o ≡ Ok (Some t) → Good i bs t
+        go : (o : Option Kind) → sign_of (get_or bs 0 0) (eqb (get_or bs 1 0) 61) ≡ o → some_token (sign_by i o) ≡ Ok (Some t) → Good i bs t
         go None q h = let no : ◌≡◌ {A = ℕ} 0 1 = cc in let bad : ⊥ = omega arith in absurd bad
         go (Some k) q h = let same : token_of k i (length (word k)) 0 ≡ t = cc in subst (Good i bs) same (sign-tok k (sign-is (get_or bs 0 0) (eqb (get_or bs 1 0) 61) k q))
 

@@ -4,7 +4,7 @@ use Rattle.std.proofs.lemmas.Bool.{eqb-true}
 use Rattle.letters.specs.declared.kind.Kind.{Kind}
 use Rattle.letters.specs.declared.kind.Kind.TheVariants.{Name, Numeral, End, Open, Close, OpenSquare, CloseSquare, Comma, Semicolon, Plus, Minus, Times, Less, AtMost, Equal, Unequal, Becomes, Rule, Needs, Gives, Let, In, If, Then, Else, Put, As, TheResult}
 use Rattle.letters.specs.Bytes.{EachLetter}
-use Rattle.letters.specs.Cuts.{sign_of, sign_by, piece_of}
+use Rattle.letters.specs.Cuts.{sign_of, sign_by, some_token, piece_of}
 use Rattle.letters.specs.Kinds.{word, written_so, keyword_of}
 use Rattle.letters.specs.Spelling.{Longest, to-sign}
 use Rattle.letters.specs.Tokens.{token_of}
@@ -24,7 +24,7 @@ pub data Sort (k : Kind) : Type 0 where
 less-piece : (i : ℕ) (after : List ℕ) → Longest (60 ∷ []) after → piece_of i (60 ∷ after) ≡ Ok (Some (token_of Less i 1 0))
 unfolding piece_of
 less-piece i [] far = refl
-less-piece i (b ∷ more) far = ap (λ t. sign_by i (sign_of 60 t)) (go (eqb b 61) refl)
+less-piece i (b ∷ more) far = ap (λ t. some_token (sign_by i (sign_of 60 t))) (go (eqb b 61) refl)
   where
     go : (t : Bool) → eqb b 61 ≡ t → t ≡ false
     go true q = absurd (far b more refl (to-sign AtMost (ap (λ x. 60 ∷ x ∷ []) (eqb-true b 61 q))))

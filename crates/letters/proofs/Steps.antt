@@ -6,7 +6,6 @@ use Rattle.letters.specs.declared.token.Token.{Token}
 use Rattle.letters.specs.declared.misspelt.Misspelt.{Misspelt}
 use Rattle.letters.specs.declared.misspelt.Misspelt.TheVariants.{Length}
 use Rattle.letters.specs.Cuts.{piece_of, open_after, Cut, done, stop, put, put_by, cut_by, cut_from, cut_of, laid}
-use Rattle.letters.proofs.Pieces.{first-at}
 
 pub skips : (n o i : ℕ) (bs : List ℕ) → cut_from n o i bs ≡ cut_from 0 o (i + n) (drop n bs)
 unfolding cut_from
@@ -35,9 +34,13 @@ module _ (i o : ℕ) (xs : List ℕ) (h : 0 < length xs) where
       front (Ok (Some t)) e ∙ ap (λ r. put_by t r (λ d. cut_from (t.size - 1) d (suc i) (drop 1 xs))) (sym q)
       ∙ ap (put t) (skips (t.size - 1) d (suc i) (drop 1 xs) ∙ ap₂ (cut_from 0 d) (omega arith) (drop-drop (t.size - 1) 1 xs ∙ ap (λ j. drop j xs) (omega arith)))
 
+-- the rest of a text from a place on
+rest-is : (xs : List ℕ) (i : ℕ) → take (length xs - i) (drop i xs) ≡ drop i xs
+rest-is xs i = take_all (length xs - i) (drop i xs) (let l = length-drop i xs in omega arith)
+
 -- what stands at a place, read from the rest of the text there
 pub at-rest : (xs : List ℕ) (i : ℕ) (p q : Result (Option Token) Misspelt) → q ≡ p → q ≡ piece_of i (take (length xs - i) (drop i xs)) → p ≡ piece_of i (drop i xs)
-at-rest xs i p q e h = sym e ∙ h ∙ ap (piece_of i) (take_all (length xs - i) (drop i xs) (let l = length-drop i xs in omega arith))
+at-rest xs i p q e h = sym e ∙ h ∙ ap (piece_of i) (rest-is xs i)
 
 -- by what stands at a place
 module _ (xs : List ℕ) (i o : ℕ) (h : i < length xs) where
@@ -50,11 +53,11 @@ module _ (xs : List ℕ) (i o : ℕ) (h : i < length xs) where
   pub cut-bad : (m : Misspelt) → Err m ≡ piece_of i (drop i xs) → cut_from 0 o i (drop i xs) ≡ stop m
   cut-bad m e = front-bad i o (drop i xs) some m e
 
-  pub cut-full : (t : Token) (m : Misspelt) → Ok (Some t) ≡ piece_of i (drop i xs) → Err m ≡ open_after (get_or xs i 0) o i → cut_from 0 o i (drop i xs) ≡ stop m
-  cut-full t m e q = front-full i o (drop i xs) some t m e (q ∙ ap (λ b. open_after b o i) (sym (first-at xs i)))
+  pub cut-full : (t : Token) (m : Misspelt) → Ok (Some t) ≡ piece_of i (drop i xs) → Err m ≡ open_after (get_or (take (length xs - i) (drop i xs)) 0 0) o i → cut_from 0 o i (drop i xs) ≡ stop m
+  cut-full t m e q = front-full i o (drop i xs) some t m e (q ∙ ap (λ (l : List ℕ). open_after (get_or l 0 0) o i) (rest-is xs i))
 
-  pub cut-part : (t : Token) (d : ℕ) → Ok (Some t) ≡ piece_of i (drop i xs) → 0 < t.size → Ok d ≡ open_after (get_or xs i 0) o i → cut_from 0 o i (drop i xs) ≡ put t (cut_from 0 d (i + t.size) (drop (i + t.size) xs))
-  cut-part t d e k q = front-part i o (drop i xs) some t d e k (q ∙ ap (λ b. open_after b o i) (sym (first-at xs i))) ∙ ap (λ (l : List ℕ). put t (cut_from 0 d (i + t.size) l)) (drop-drop t.size i xs)
+  pub cut-part : (t : Token) (d : ℕ) → Ok (Some t) ≡ piece_of i (drop i xs) → 0 < t.size → Ok d ≡ open_after (get_or (take (length xs - i) (drop i xs)) 0 0) o i → cut_from 0 o i (drop i xs) ≡ put t (cut_from 0 d (i + t.size) (drop (i + t.size) xs))
+  cut-part t d e k q = front-part i o (drop i xs) some t d e k (q ∙ ap (λ (l : List ℕ). open_after (get_or l 0 0) o i) (rest-is xs i)) ∙ ap (λ (l : List ℕ). put t (cut_from 0 d (i + t.size) l)) (drop-drop t.size i xs)
 
 pub cut-none : (i o : ℕ) → cut_from 0 o i [] ≡ done
 unfolding cut_from

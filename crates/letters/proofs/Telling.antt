@@ -6,7 +6,7 @@ use Rattle.letters.specs.declared.token.Token.{Token}
 use Rattle.letters.specs.declared.misspelt.Misspelt.{Misspelt}
 use Rattle.letters.specs.declared.misspelt.Misspelt.TheVariants.{Length, Letter, Brackets}
 use Rattle.letters.specs.Bytes.{is_blank, is_letter, is_digit, is_opening, is_closing, Gap, Word, Number, Sign}
-use Rattle.letters.specs.Cuts.{sign_by, piece_by, piece_of, open_after, Cut, stop, put, cut_from, answer_by}
+use Rattle.letters.specs.Cuts.{sign_by, some_token, piece_by, piece_of, open_after, Cut, stop, put, cut_from, answer_by}
 use Rattle.letters.specs.Spelling.{Reads, end, blank, token, Told}
 use Rattle.letters.proofs.Exact.{spelt-piece, blank-piece, stuck}
 use Rattle.letters.proofs.Good.{Good, part-good}
@@ -39,11 +39,11 @@ pub blank-first : (i : ℕ) (bs : List ℕ) → Ok None ≡ piece_of i bs → is
 unfolding piece_of
 blank-first i bs e = go (is_blank (get_or bs 0 0)) (is_letter (get_or bs 0 0)) (is_digit (get_or bs 0 0)) e
   where
-    no_word : (s : Bool) (t : Token) → Ok None ≡ cond s (Ok (Some t)) (Err (Letter i)) → ⊥
+    no_word : (s : Bool) (t : Token) → Ok None ≡ some_token (cond s (Ok t) (Err (Letter i))) → ⊥
     no_word true t h = let no : ◌≡◌ {A = ℕ} 0 1 = cc in omega arith
     no_word false t h = let no : ◌≡◌ {A = ℕ} 0 1 = cc in omega arith
 
-    no_sign : (o : Option Kind) → Ok None ≡ sign_by i o → ⊥
+    no_sign : (o : Option Kind) → Ok None ≡ some_token (sign_by i o) → ⊥
     no_sign None h = let no : ◌≡◌ {A = ℕ} 0 1 = cc in omega arith
     no_sign (Some k) h = let no : ◌≡◌ {A = ℕ} 0 1 = cc in omega arith
 
@@ -57,11 +57,11 @@ pub bad-letter : (i : ℕ) (bs : List ℕ) (m : Misspelt) → Err m ≡ piece_of
 unfolding piece_of
 bad-letter i bs m e = go (is_blank (get_or bs 0 0)) (is_letter (get_or bs 0 0)) (is_digit (get_or bs 0 0)) e
   where
-    on-run : (s : Bool) (t : Token) → Err m ≡ cond s (Ok (Some t)) (Err (Letter i)) → m ≡ Letter i
+    on-run : (s : Bool) (t : Token) → Err m ≡ some_token (cond s (Ok t) (Err (Letter i))) → m ≡ Letter i
     on-run true t h = cc
     on-run false t h = cc
 
-    on-sign : (o : Option Kind) → Err m ≡ sign_by i o → m ≡ Letter i
+    on-sign : (o : Option Kind) → Err m ≡ some_token (sign_by i o) → m ≡ Letter i
     on-sign None h = cc
     on-sign (Some k) h = cc
 

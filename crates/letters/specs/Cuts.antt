@@ -12,17 +12,17 @@ use Rattle.letters.specs.Kinds.{word, keyword_of}
 use Rattle.letters.specs.Tokens.{token_of}
 
 -- the word at the front of the bytes from place i on: the run of letters there, a keyword or a name; a run of more than 16 is misspelt
-abbrev pub word_by : ℕ → List ℕ → ℕ → Result (Option Token) Misspelt
-word_by i bs n = cond (nat_le n 16) (Ok (Some (token_of (keyword_of (take n bs)) i n 0))) (Err (Letter i))
+abbrev pub word_by : ℕ → List ℕ → ℕ → Result Token Misspelt
+word_by i bs n = cond (nat_le n 16) (Ok (token_of (keyword_of (take n bs)) i n 0)) (Err (Letter i))
 
-abbrev pub word_at : ℕ → List ℕ → Result (Option Token) Misspelt
+abbrev pub word_at : ℕ → List ℕ → Result Token Misspelt
 word_at i bs = word_by i bs (prefix_len is_letter bs)
 
 -- the numeral at the front: the run of digits there; a run of more than 6 is misspelt
-abbrev pub numeral_by : ℕ → List ℕ → ℕ → Result (Option Token) Misspelt
-numeral_by i bs n = cond (nat_le n 6) (Ok (Some (token_of Numeral i n (digits_value 10 (take n bs))))) (Err (Letter i))
+abbrev pub numeral_by : ℕ → List ℕ → ℕ → Result Token Misspelt
+numeral_by i bs n = cond (nat_le n 6) (Ok (token_of Numeral i n (digits_value 10 (take n bs)))) (Err (Letter i))
 
-abbrev pub numeral_at : ℕ → List ℕ → Result (Option Token) Misspelt
+abbrev pub numeral_at : ℕ → List ℕ → Result Token Misspelt
 numeral_at i bs = numeral_by i bs (prefix_len is_digit bs)
 
 -- the sign that begins with a byte, by whether an equals sign follows
@@ -33,19 +33,24 @@ sign_of b equals =
     (cond (b == 44) (Some Comma) (cond (b == 59) (Some Semicolon) (cond (b == 43) (Some Plus) (cond (b == 45) (Some Minus)
     (cond (b == 42) (Some Times) (cond (b == 60) (Some Less) (cond (b == 61) (Some Equal) None)))))))))))))
 
-abbrev pub sign_by : ℕ → Option Kind → Result (Option Token) Misspelt
+abbrev pub sign_by : ℕ → Option Kind → Result Token Misspelt
 sign_by i None = Err (Letter i)
-sign_by i (Some k) = Ok (Some (token_of k i (length (word k)) 0))
+sign_by i (Some k) = Ok (token_of k i (length (word k)) 0)
 
-abbrev pub sign_at : ℕ → List ℕ → Result (Option Token) Misspelt
+abbrev pub sign_at : ℕ → List ℕ → Result Token Misspelt
 sign_at i bs = sign_by i (sign_of (slice_index bs 0) (slice_index bs 1 == 61))
+
+-- a token that stands there, as a piece
+abbrev pub some_token : Result Token Misspelt → Result (Option Token) Misspelt
+some_token (Ok t) = Ok (Some t)
+some_token (Err m) = Err m
 
 -- what stands at the front of the bytes from place i on: a blank, which is no token, or the longest token, or neither
 abbrev pub piece_by : Lead → ℕ → List ℕ → Result (Option Token) Misspelt
 piece_by Gap i bs = Ok None
-piece_by Word i bs = word_at i bs
-piece_by Number i bs = numeral_at i bs
-piece_by Sign i bs = sign_at i bs
+piece_by Word i bs = some_token (word_at i bs)
+piece_by Number i bs = some_token (numeral_at i bs)
+piece_by Sign i bs = some_token (sign_at i bs)
 
 unfoldable pub piece_of : ℕ → List ℕ → Result (Option Token) Misspelt
 piece_of i bs = piece_by (lead_of (slice_index bs 0)) i bs

@@ -43,7 +43,7 @@ fn digits_ahead(bytes: &[u8]) -> usize
         .count()
 }
 
-// The number that digits write. A `for`: no bound of the number so far is known at the step of a `fold`.
+// The number that digits write. A `for`: no bound of the number so far is known at the step of a `fold`. And no `parse`, which wants a text: the bytes would be made one first, and both steps answer errors that digits never have.
 fn decimal(digits: &[u8]) -> u32
     requires few { length digits.now ≤ 6 }
     requires all { EachDigit digits.now }
@@ -54,38 +54,6 @@ fn decimal(digits: &[u8]) -> u32
         number = number * 10 + u32::from(*digit - b'0');
     }
     number
-}
-
-// The longest word at the front of what is left from a place on: a keyword or a name.
-fn word_at(rest: &[u8], place: usize) -> Result<Option<Token>, Misspelt>
-    ensures { result ≡ word_at place rest.now }
-{
-    let size = letters_ahead(rest);
-    if size > MOST_LETTERS {
-        return Err(Misspelt::Letter(place));
-    }
-    Ok(Some(Token {
-        kind: Kind::of_word(&rest[..size]),
-        place,
-        size,
-        value: 0,
-    }))
-}
-
-// The longest numeral there.
-fn numeral_at(rest: &[u8], place: usize) -> Result<Option<Token>, Misspelt>
-    ensures { result ≡ numeral_at place rest.now }
-{
-    let size = digits_ahead(rest);
-    if size > MOST_DIGITS {
-        return Err(Misspelt::Letter(place));
-    }
-    Ok(Some(Token {
-        kind: Kind::Numeral,
-        place,
-        size,
-        value: decimal(&rest[..size]),
-    }))
 }
 
 // The sign that begins with a byte, if an equals sign follows or not.
@@ -111,49 +79,89 @@ fn sign_kind(byte: u8, equals: bool) -> Option<Kind>
     }
 }
 
-// The longest sign there.
-fn sign_at(rest: &[u8], place: usize) -> Result<Option<Token>, Misspelt>
-    requires { 0 < length rest.now }
-    ensures { result ≡ sign_at place rest.now }
-{
-    let equals = rest.get(1) == Some(&b'=');
-    let kind = sign_kind(rest[0], equals).ok_or(Misspelt::Letter(place))?;
-    Ok(Some(Token {
-        kind,
-        place,
-        size: kind.word().len(),
-        value: 0,
-    }))
+// What is left of a text from a place on; something is.
+#[derive(Clone, Copy)]
+struct Ahead<'t> {
+    rest: &'t [u8],
+    place: usize,
+    ghost some: { 0 < length rest.now },
 }
 
-// What stands there: a blank, which is no token, or the longest token.
-#[tactic(auto, unfolding(crate::specs::Cuts::piece_of))]
-fn piece_at(rest: &[u8], place: usize) -> Result<Option<Token>, Misspelt>
-    requires { 0 < length rest.now }
-    ensures { result ≡ piece_of place rest.now }
-{
-    match rest[0] as char {
-        ' ' | '\t' | '\n' | '\r' => Ok(None),
-        'a'..='z' | '_' => word_at(rest, place),
-        '0'..='9' => numeral_at(rest, place),
-        _ => sign_at(rest, place),
+impl Ahead<'_> {
+    // The longest word at the front: a keyword or a name.
+    fn word(self) -> Result<Token, Misspelt>
+        ensures { result ≡ word_at self.entry.place self.entry.rest.now }
+    {
+        let size = letters_ahead(self.rest);
+        if size > MOST_LETTERS {
+            return Err(Misspelt::Letter(self.place));
+        }
+        Ok(Token {
+            kind: Kind::of_word(&self.rest[..size]),
+            place: self.place,
+            size,
+            value: 0,
+        })
+    }
+
+    // The longest numeral there.
+    fn numeral(self) -> Result<Token, Misspelt>
+        ensures { result ≡ numeral_at self.entry.place self.entry.rest.now }
+    {
+        let size = digits_ahead(self.rest);
+        if size > MOST_DIGITS {
+            return Err(Misspelt::Letter(self.place));
+        }
+        Ok(Token {
+            kind: Kind::Numeral,
+            place: self.place,
+            size,
+            value: decimal(&self.rest[..size]),
+        })
+    }
+
+    // The longest sign there.
+    fn sign(self) -> Result<Token, Misspelt>
+        ensures { result ≡ sign_at self.entry.place self.entry.rest.now }
+    {
+        let equals = self.rest.get(1) == Some(&b'=');
+        let kind = sign_kind(self.rest[0], equals).ok_or(Misspelt::Letter(self.place))?;
+        Ok(Token {
+            kind,
+            place: self.place,
+            size: kind.word().len(),
+            value: 0,
+        })
+    }
+
+    // What stands there: a blank, which is no token, or the longest token.
+    #[tactic(auto, unfolding(crate::specs::Cuts::piece_of))]
+    fn piece(self) -> Result<Option<Token>, Misspelt>
+        ensures { result ≡ piece_of self.entry.place self.entry.rest.now }
+    {
+        match self.rest[0] as char {
+            ' ' | '\t' | '\n' | '\r' => Ok(None),
+            'a'..='z' | '_' => self.word().map(Some),
+            '0'..='9' => self.numeral().map(Some),
+            _ => self.sign().map(Some),
+        }
+    }
+
+    // How many brackets are open after the token there, given how many are before it.
+    fn open_after(self, depth: usize) -> Result<usize, Misspelt>
+        ensures { result ≡ open_after (slice_index self.entry.rest.now 0) depth self.entry.place }
+    {
+        match self.rest[0] as char {
+            '(' | '[' if depth < MOST_OPEN => Ok(depth + 1),
+            '(' | '[' => Err(Misspelt::Brackets(self.place)),
+            ')' | ']' => Ok(depth.saturating_sub(1)),
+            _ => Ok(depth),
+        }
     }
 }
 
-// How many brackets are open after the token that begins with this byte.
-fn open_after(byte: u8, depth: usize, place: usize) -> Result<usize, Misspelt>
-    ensures { result ≡ open_after byte depth place }
-{
-    match byte as char {
-        '(' | '[' if depth < MOST_OPEN => Ok(depth + 1),
-        '(' | '[' => Err(Misspelt::Brackets(place)),
-        ')' | ']' => Ok(depth.saturating_sub(1)),
-        _ => Ok(depth),
-    }
-}
-
-// Cuts a text into tokens, writes them to the front and says how many they are. The array is the caller's, who wants it again after a refusal too, so the count stands beside it; the place goes on by a token's size, and each token keeps it, so it is counted.
-pub fn cut(text: &[u8], tokens: &mut [Token; 16384]) -> Result<usize, Misspelt>
+// Cuts a text into tokens, writes them to the front and says how many they are. The array is the caller's, who wants it again after a refusal too, so the count stands beside it, and in no pile: `written` says what lies past the count, which a pile's contract does not. The place goes on by a token's size, and each token keeps it, so it is counted.
+pub fn cut(text: &[u8], tokens: &mut [Token; MOST_BYTES]) -> Result<usize, Misspelt>
     ensures value { result ≡ answer (cut_of text.now) }
     ensures written { tokens.new ≡ laid (cut_of text.now).tokens tokens.old }
     ensures few { IfOk result (λ n. n ≤ 16384) }
@@ -167,10 +175,14 @@ pub fn cut(text: &[u8], tokens: &mut [Token; 16384]) -> Result<usize, Misspelt>
     let mut depth = 0;
     let mut count = 0;
     while at < text.len() {
-        match piece_at(&text[at..], at)? {
+        let ahead = Ahead {
+            rest: &text[at..],
+            place: at,
+        };
+        match ahead.piece()? {
             None => at += 1,
             Some(token) => {
-                depth = open_after(text[at], depth, at)?;
+                depth = ahead.open_after(depth)?;
                 tokens[count] = token;
                 count += 1;
                 at += token.size;

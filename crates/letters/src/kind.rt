@@ -4,7 +4,7 @@ ghost use Rattle.letters.specs.Kinds.{number, word, keyword_of};
 
 use std::fmt;
 
-// What a token is. A keyword is added at the end of the enum, of `KEYWORDS` and of `word`.
+// What a token is. A keyword is added at the end of the enum, of `KEYWORDS` and of `word`; the crate `showing` has a list of every kind, which takes it too.
 #[derive(Clone, Copy, Debug, PartialEq, Eq)]
 pub enum Kind {
     Name,

@@ -1,17 +1,20 @@
 ghost use Rattle.std.specs.Prelude.{◌≡◌};
 ghost use Rattle.letters.specs.Misspellings.{place_of};
 
-use std::error::Error;
-use std::fmt;
+use crate::cutting::MOST_OPEN;
+use thiserror::Error;
 
 // Why a text is not cut into tokens, with the byte where it fails.
-#[derive(Clone, Copy, Debug, PartialEq, Eq)]
+#[derive(Clone, Copy, Debug, PartialEq, Eq, Error)]
 pub enum Misspelt {
     // The text is longer than any text may be.
+    #[error("the text is longer than 16,384 bytes")]
     Length,
     // No token begins here, or one that is too long.
+    #[error("no token begins at byte {0}, or one that is too long")]
     Letter(usize),
     // A bracket opens here, and as many as may be are open.
+    #[error("{max} brackets are open before byte {0}, and no more may be", max = MOST_OPEN)]
     Brackets(usize),
 }
 
@@ -26,21 +29,3 @@ impl Misspelt {
         }
     }
 }
-
-impl fmt::Display for Misspelt {
-    fn fmt<W: fmt::Write>(&self, f: &mut fmt::Formatter<W>) -> fmt::Result {
-        match self {
-            Misspelt::Length => write!(f, "the text is longer than 16,384 bytes"),
-            Misspelt::Letter(place) => write!(
-                f,
-                "no token begins at byte {place}, or one that is too long"
-            ),
-            Misspelt::Brackets(place) => write!(
-                f,
-                "64 brackets are open before byte {place}, and no more may be"
-            ),
-        }
-    }
-}
-
-impl Error for Misspelt {}

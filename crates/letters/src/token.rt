@@ -26,7 +26,7 @@ impl Token {
         }
     }
 
-    // The token is of this kind.
+    // The token is of this kind. A function and no `==` at each caller: this promises `same_kind`, by which the definitions ask, and every `==` would have to be tied to that anew.
     #[tactic(auto, using(crate::proofs::Equals::tagged), unfolding(crate::specs::Kinds::same_kind))]
     pub fn is(self, kind: Kind) -> bool
         ensures { result ≡ same_kind self.kind kind }

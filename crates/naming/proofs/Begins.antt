@@ -15,8 +15,8 @@ use Rattle.grammar.specs.Sheets.{number_param, list_param}
 use Rattle.grammar.specs.Stretches.{Past, past, param_at, params_at}
 use Rattle.naming.specs.declared.head.Param.{Param}
 use Rattle.naming.specs.declared.head.Params.{Params}
-use Rattle.naming.specs.Stretching.{Reader, rest, params, left_at, left, next_after, Gives}
-use Rattle.naming.proofs.Joins.{rest-none, rest_out, params-list}
+use Rattle.naming.specs.Stretching.{Reader, rest, end, params, begun, ended, left, next_after, Gives}
+use Rattle.naming.proofs.Joins.{rest-none, end_none, params-list}
 
 pub take_min : {X : Type 0} (xs : List X) (n : ℕ) → take (min (length xs) n) xs ≡ take n xs
 take_min xs n = elim (cases_lt n (length xs)) [ inl h ↦ ap (λ m. take m xs) (omega arith) | inr h ↦ ap (λ m. take m xs) (omega arith) ∙ take_all (length xs) xs (omega arith) ∙ sym (take_all n xs h) ]
@@ -43,64 +43,67 @@ past-params ts e n i h =
     ∙ ap (λ (p : Past Raw.Param). p.value ∷ params l n p.next) (past-param l i e a b)
     ∙ ap (λ ps. number_param (token_of End e 0 0) ∷ ps) (rest-none l (is_a Comma) (λ t j. param_at l j) n (suc i) (ap (is_a Comma) b))
 
-begun : (ts : List Token) (e i : ℕ) (here : Bool) → here ≡ is_a Close (look_in ts e (min i (length ts))) → left_at (look_in ts e) (min i (length ts)) (length ts) (not here) ≡ params_at (length ts) (look_in ts e) i
-unfolding left_at
-begun ts e i here h = flip here ((param_at l j).value ∷ params l (length ts) (param_at l j).next) ∙ ap (λ b. cond b [] ((param_at l j).value ∷ params l (length ts) (param_at l j).next)) h ∙ sym (params-list l (length ts) j) ∙ clamped
+-- one is read past each such token
+module _ {X : Type 0} (l : Look) (b : Token → Bool) (one : Reader X) where
+  pub left-none : (p : Past X) (n : ℕ) (here : Bool) → here ≡ false → begun l b one p n here ≡ []
+  unfolding begun
+  left-none p n here e = rw e
+
+  pub ended-none : (p : Past X) (n last : ℕ) (here : Bool) → begun l b one p n here ≡ [] → ended l b one p n last here ≡ last
+  unfolding begun ended
+  ended-none p n last true e = let o = ap length e in absurd (omega arith)
+  ended-none p n last false e = refl
+
+  next-some : (m j : ℕ) → b (l j) ≡ true → next_after (b (l j)) (suc m) j ≡ Some (j + 1)
+  next-some m j k = ap (λ t. next_after t (suc m) j) k ∙ ap (λ t. cond t (Some (j + 1)) None) (lt-ltb 0 (suc m) (omega arith))
+
+  next-none : (m j : ℕ) → b (l j) ≡ false → next_after (b (l j)) (suc m) j ≡ None
+  next-none m j k = ap (λ t. next_after t (suc m) j) k ∙ ap (λ t. cond t None None) (lt-ltb 0 (suc m) (omega arith))
+
+  -- one is given, and what is left begins past the token after it
+  pub left-on : (p : Past X) (n j : ℕ) (here : Bool) (x : X) (o : Option ℕ) → here ≡ true → p ≡ past x j → o ≡ next_after (b (l j)) n j → begun l b one p n here ≡ x ∷ begun l b one (one (l j) (unwrap_or o 0)) (n - 1) (is_some o)
+  unfolding begun rest
+  left-on p n j here x o h e f = ap (λ t. begun l b one p n t) h ∙ ap (λ q. begun l b one q n true) e ∙ go n (b (l j)) refl ∙ ap (λ m. x ∷ begun l b one (one (l j) (unwrap_or m 0)) (n - 1) (is_some m)) (sym f)
+    where
+      go : (n : ℕ) (t : Bool) → b (l j) ≡ t → x ∷ rest l b one n j ≡ x ∷ begun l b one (one (l j) (unwrap_or (next_after (b (l j)) n j) 0)) (n - 1) (is_some (next_after (b (l j)) n j))
+      go zero t k = refl
+      go (suc m) true k =
+          ap (λ t. x ∷ cond t ((one (l j) (suc j)).value ∷ rest l b one m (one (l j) (suc j)).next) []) k
+          ∙ ap (λ i. x ∷ ((one (l j) i).value ∷ rest l b one m (one (l j) i).next)) (omega arith)
+          ∙ ap (λ q. x ∷ begun l b one (one (l j) (j + 1)) q true) (omega arith)
+          ∙ ap (λ m'. x ∷ begun l b one (one (l j) (unwrap_or m' 0)) (suc m - 1) (is_some m')) (sym (next-some m j k))
+      go (suc m) false k = ap (λ xs. x ∷ xs) (rest-none l b one (suc m) j k) ∙ ap (λ m'. x ∷ begun l b one (one (l j) (unwrap_or m' 0)) (suc m - 1) (is_some m')) (sym (next-none m j k))
+
+  pub ended-on : (p : Past X) (n j last : ℕ) (here : Bool) (x : X) (o : Option ℕ) → here ≡ true → p ≡ past x j → o ≡ next_after (b (l j)) n j → ended l b one p n last here ≡ ended l b one (one (l j) (unwrap_or o 0)) (n - 1) j (is_some o)
+  unfolding ended end
+  ended-on p n j last here x o h e f = ap (λ t. ended l b one p n last t) h ∙ ap (λ q. ended l b one q n last true) e ∙ go n (b (l j)) refl ∙ ap (λ m. ended l b one (one (l j) (unwrap_or m 0)) (n - 1) j (is_some m)) (sym f)
+    where
+      go : (n : ℕ) (t : Bool) → b (l j) ≡ t → end l b one n j ≡ ended l b one (one (l j) (unwrap_or (next_after (b (l j)) n j) 0)) (n - 1) j (is_some (next_after (b (l j)) n j))
+      go zero t k = refl
+      go (suc m) true k =
+          ap (λ t. cond t (end l b one m (one (l j) (suc j)).next) j) k
+          ∙ ap (λ i. end l b one m (one (l j) i).next) (omega arith)
+          ∙ ap (λ q. ended l b one (one (l j) (j + 1)) q j true) (omega arith)
+          ∙ ap (λ m'. ended l b one (one (l j) (unwrap_or m' 0)) (suc m - 1) j (is_some m')) (sym (next-some m j k))
+      go (suc m) false k = end_none l b one (suc m) j k ∙ ap (λ m'. ended l b one (one (l j) (unwrap_or m' 0)) (suc m - 1) j (is_some m')) (sym (next-none m j k))
+
+-- none is to come where the bracket closes, else the first is
+pub begun_at : (ts : List Token) (e i j : ℕ) (none : Bool) (o : Option ℕ) → j ≡ min i (length ts) → none ≡ is_a Close (look_in ts e j) → o ≡ then_some (not none) j → begun (look_in ts e) (is_a Comma) (λ t k. param_at (look_in ts e) k) (param_at (look_in ts e) (unwrap_or o 0)) (length ts) (is_some o) ≡ params_at (length ts) (look_in ts e) i
+unfolding begun
+begun_at ts e i j none o a b d = ap left-by d ∙ go none b ∙ sym (params-list l (length ts) j) ∙ ap (params_at (length ts) l) a ∙ clamped
   where
     l : Look
     l = look_in ts e
 
-    j : ℕ
-    j = min i (length ts)
+    left-by : Option ℕ → List Raw.Param
+    left-by o = begun l (is_a Comma) (λ t k. param_at l k) (param_at l (unwrap_or o 0)) (length ts) (is_some o)
 
-    flip : (b : Bool) (xs : List Raw.Param) → cond (not b) xs [] ≡ cond b [] xs
-    flip true xs = refl
-    flip false xs = refl
+    go : (t : Bool) → t ≡ is_a Close (l j) → left-by (then_some (not t) j) ≡ cond (is_a Close (l j)) [] ((param_at l j).value ∷ params l (length ts) (param_at l j).next)
+    go true h = ap (λ t. cond t [] ((param_at l j).value ∷ params l (length ts) (param_at l j).next)) h
+    go false h = ap (λ t. cond t [] ((param_at l j).value ∷ params l (length ts) (param_at l j).next)) h
 
-    clamped : params_at (length ts) l j ≡ params_at (length ts) l i
-    clamped = elim (cases_lt i (length ts)) [ inl h ↦ ap (params_at (length ts) l) (omega arith) | inr h ↦ past-params ts e (length ts) j (omega arith) ∙ sym (past-params ts e (length ts) i h) ]
-
--- none is to come where the bracket closes, else the first is
-pub begun_at : (ts : List Token) (e i j : ℕ) (none : Bool) (o : Option ℕ) → j ≡ min i (length ts) → none ≡ is_a Close (look_in ts e j) → o ≡ then_some (not none) j → left_at (look_in ts e) (unwrap_or o 0) (length ts) (is_some o) ≡ params_at (length ts) (look_in ts e) i
-unfolding left_at
-begun_at ts e i j true o a b d = ap (λ m. left_at (look_in ts e) (unwrap_or m 0) (length ts) (is_some m)) d ∙ begun ts e i true (b ∙ ap (λ k. is_a Close (look_in ts e k)) a)
-begun_at ts e i j false o a b d = ap (λ m. left_at (look_in ts e) (unwrap_or m 0) (length ts) (is_some m)) d ∙ ap (λ k. left_at (look_in ts e) k (length ts) true) a ∙ begun ts e i false (b ∙ ap (λ k. is_a Close (look_in ts e k)) a)
-
-pub left-none : (l : Look) (at n : ℕ) (here : Bool) → here ≡ false → left_at l at n here ≡ []
-unfolding left_at
-left-none l at n here e = rw e
-
-pub left-last : (l : Look) (at n : ℕ) (here : Bool) (p : Raw.Param) (j at' n' : ℕ) → here ≡ true → param_at l at ≡ past p j → params l n j ≡ [] → left_at l at n here ≡ p ∷ left_at l at' n' false
-unfolding left_at
-left-last l at n here p j at' n' h e f = ap (λ b. cond b ((param_at l at).value ∷ params l n (param_at l at).next) []) h ∙ ap (λ (q : Past Raw.Param). q.value ∷ params l n q.next) e ∙ ap (λ ps. p ∷ ps) f
-
-pub left-more : (l : Look) (at n : ℕ) (here : Bool) (p : Raw.Param) (j : ℕ) → here ≡ true → param_at l at ≡ past p j → 0 < n → is_a Comma (l j) ≡ true → left_at l at n here ≡ p ∷ left_at l (j + 1) (n - 1) true
-unfolding left_at rest
-left-more l at zero here p j h e k c = absurd (omega arith)
-left-more l at (suc m) here p j h e k c =
-    ap (λ b. cond b ((param_at l at).value ∷ params l (suc m) (param_at l at).next) []) h ∙ ap (λ (q : Past Raw.Param). q.value ∷ params l (suc m) q.next) e
-    ∙ ap (λ b. p ∷ cond b ((param_at l (suc j)).value ∷ params l m (param_at l (suc j)).next) []) c
-    ∙ ap (λ i. p ∷ ((param_at l i).value ∷ params l m (param_at l i).next)) (omega arith) ∙ ap (λ k. p ∷ ((param_at l (j + 1)).value ∷ params l k (param_at l (j + 1)).next)) (omega arith)
-
--- one is given, and what is left begins past the comma after it
-pub left-on : (l : Look) (next : Option ℕ) (at n j : ℕ) (p : Raw.Param) (o : Option ℕ) → next ≡ Some at → param_at l at ≡ past p j → o ≡ next_after l n j → left_at l (unwrap_or next 0) n (is_some next) ≡ p ∷ left_at l (unwrap_or o 0) (n - 1) (is_some o)
-left-on l next at n j p o e f g = ap (λ m. left_at l (unwrap_or m 0) n (is_some m)) e ∙ go n f ∙ ap (λ m. p ∷ left_at l (unwrap_or m 0) (n - 1) (is_some m)) (sym g)
-  where
-    comma : (m : ℕ) (b : Bool) → is_a Comma (l j) ≡ b → param_at l at ≡ past p j → left_at l at (suc m) true ≡ p ∷ left_at l (unwrap_or (cond b (Some (j + 1)) None) 0) (suc m - 1) (is_some (cond b (Some (j + 1)) None))
-    comma m true h f = left-more l at (suc m) true p j refl f (omega arith) h
-    comma m false h f = left-last l at (suc m) true p j 0 (suc m - 1) refl f (rest-none l (is_a Comma) (λ t i. param_at l i) (suc m) j h)
-
-    go : (n : ℕ) → param_at l at ≡ past p j → left_at l at n true ≡ p ∷ left_at l (unwrap_or (next_after l n j) 0) (n - 1) (is_some (next_after l n j))
-    go zero f = left-last l at 0 true p j 0 (0 - 1) refl f (rest_out l (is_a Comma) (λ t i. param_at l i) 0 j refl)
-    go (suc m) f = comma m (is_a Comma (l j)) refl f ∙ ap (λ t. p ∷ left_at l (unwrap_or (cond t (cond (is_a Comma (l j)) (Some (j + 1)) None) None) 0) (suc m - 1) (is_some (cond t (cond (is_a Comma (l j)) (Some (j + 1)) None) None))) (sym (lt-ltb 0 (suc m) (omega arith)))
-
-pub is_true : {b : Bool} → not b ≡ false → b ≡ true
-is_true {b = true} e = refl
-is_true {b = false} e = sym e
-
-pub is_false : {b : Bool} → not b ≡ true → b ≡ false
-is_false {b = true} e = sym e
-is_false {b = false} e = refl
+    clamped : params_at (length ts) l (min i (length ts)) ≡ params_at (length ts) l i
+    clamped = elim (cases_lt i (length ts)) [ inl h ↦ ap (params_at (length ts) l) (omega arith) | inr h ↦ past-params ts e (length ts) (min i (length ts)) (omega arith) ∙ sym (past-params ts e (length ts) i h) ]
 
 length_rest : {X : Type 0} (l : Look) (b : Token → Bool) (one : Reader X) (n i : ℕ) → length (rest l b one n i) ≤ n
 unfolding rest
@@ -111,10 +114,10 @@ length_rest l b one (suc n) i = go (length_rest l b one n (one (l i) (suc i)).ne
     go h true = omega arith
     go h false = omega arith
 
-pub length-left : (l : Look) (at n : ℕ) (here : Bool) → length (left_at l at n here) ≤ n + 1
-unfolding left_at
-length-left l at n true = let h = length_rest l (is_a Comma) (λ t j. param_at l j) n (param_at l at).next in omega arith
-length-left l at n false = omega arith
+pub length-left : {X : Type 0} (l : Look) (b : Token → Bool) (one : Reader X) (p : Past X) (n : ℕ) (here : Bool) → length (begun l b one p n here) ≤ n + 1
+unfolding begun
+length-left l b one p n true = let h = length_rest l b one n p.next in omega arith
+length-left l b one p n false = omega arith
 
 pub comma-stands : (ts : List Token) (e i : ℕ) → is_a Comma (look_in ts e i) ≡ true → i < length ts
 unfolding same_kind

@@ -46,9 +46,10 @@ unfolding rest
 rest-none l b one zero i e = refl
 rest-none l b one (suc n) i e = rw e
 
+pub end_none : {X : Type 0} (l : Look) (b : Token → Bool) (one : Reader X) (n i : ℕ) → b (l i) ≡ false → end l b one n i ≡ i
+unfolding end
+end_none l b one zero i e = refl
+end_none l b one (suc n) i e = rw e
+
 pub params-list : (l : Look) (n i : ℕ) → params_at n l i ≡ cond (is_a Close (l i)) [] ((param_at l i).value ∷ params l n (param_at l i).next)
 params-list l n i = ap (λ ps. cond (is_a Close (l i)) [] ps) (joined-value l (is_a Comma) (λ t j. param_at l j) n ((param_at l i).value ∷ []) (param_at l i).next)
-
-pub rest_out : {X : Type 0} (l : Look) (b : Token → Bool) (one : Reader X) (n i : ℕ) → n ≡ 0 → rest l b one n i ≡ []
-unfolding rest
-rest_out l b one n i e = rw e

@@ -3,6 +3,7 @@ pub mod Joins
 pub mod Begins
 pub mod Nodes
 pub mod Slots
+pub mod SideLists
 pub mod Turns
 pub mod Grown
 pub mod Called

@@ -9,9 +9,9 @@ use Rattle.naming.specs.Faults.{found}
 use Rattle.naming.specs.Least.{least}
 use Rattle.naming.specs.Scopes.{next, slot_in}
 
-pub none-some : (o : Option ℕ) → is_some o ≡ false → None ≡ o
-none-some None e = refl
-none-some (Some i) e = cc
+pub none-is : (o : Option ℕ) → is_some o ≡ false → None ≡ o
+none-is None e = refl
+none-is (Some i) e = cc
 
 within_suc : (q p n : ℕ) → q ≡ suc p → cond (ltb q (suc n)) (Some q) None ≡ next (cond (ltb p n) (Some p) None)
 within_suc q p n e = go (cases_lt p n)

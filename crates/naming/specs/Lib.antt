@@ -1,6 +1,7 @@
 pub mod Least
 pub mod Sources
 pub mod Stretching
+pub mod Sides
 pub mod Scopes
 pub mod Reaches
 pub mod Faults

@@ -7,10 +7,10 @@ use Rattle.letters.specs.declared.token.Token.{Token}
 use Rattle.letters.specs.Kinds.{same_kind}
 use Rattle.grammar.specs.Raw as Raw
 use Rattle.grammar.specs.Raw.{num, name, calc, read, call, bind, test, put, claim, nest, none, more}
-use Rattle.language.specs.declared.sign.Operator.{Operator}
-use Rattle.language.specs.declared.sign.Operator.TheVariants.{Sum, Difference, Product}
-use Rattle.language.specs.declared.sign.Comparison.{Comparison}
-use Rattle.language.specs.declared.sign.Comparison.TheVariants.{Less, LessOrEqual, Equal, NotEqual}
+use Rattle.language.specs.declared.operator.Operator.{Operator}
+use Rattle.language.specs.declared.operator.Operator.TheVariants.{Sum, Difference, Product}
+use Rattle.language.specs.declared.comparison.Comparison.{Comparison}
+use Rattle.language.specs.declared.comparison.Comparison.TheVariants.{Less, LessOrEqual, Equal, NotEqual}
 use Rattle.language.specs.Tree as Tree
 use Rattle.naming.specs.Scopes.{Scope, Sheet, slot_in, rule_in, naming, empty, head_scope}
 use Rattle.naming.specs.Faults.{bare_list, count_args, params_of, length_at}

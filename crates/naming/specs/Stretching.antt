@@ -43,17 +43,20 @@ looked l (Some n) = Some (l n)
 abbrev pub written : Look → Param → Raw.Param
 written l p = record { name = l p.name; length = looked l p.length }
 
--- the parameters from a position on, if one is to come there
-unfoldable pub left_at : Look → ℕ → ℕ → Bool → List Raw.Param
-left_at l at n here = cond here ((param_at l at).value ∷ params l n (param_at l at).next) []
+-- what was read and what is joined to it, if it is to come; and where the last of it ends
+unfoldable pub begun : {X : Type 0} → Look → (Token → Bool) → Reader X → Past X → ℕ → Bool → List X
+begun l b one p n here = cond here (p.value ∷ rest l b one n p.next) []
 
--- those that are still to come
+unfoldable pub ended : {X : Type 0} → Look → (Token → Bool) → Reader X → Past X → ℕ → ℕ → Bool → ℕ
+ended l b one p n last here = cond here (end l b one n p.next) last
+
+-- the parameters that are still to come
 abbrev pub left : Params → List Raw.Param
-left s = left_at (look_of (source_of s.sheet)) (unwrap_or s.next 0) s.rest (is_some s.next)
+left s = begun (look_of (source_of s.sheet)) (is_a Comma) (λ t i. param_at (look_of (source_of s.sheet)) i) (param_at (look_of (source_of s.sheet)) (unwrap_or s.next 0)) s.rest (is_some s.next)
 
--- where the next begins, after one that ends at a position
-abbrev pub next_after : Look → ℕ → ℕ → Option ℕ
-next_after l n j = cond (nat_lt 0 n) (cond (is_a Comma (l j)) (Some (j + 1)) None) None
+-- where the next begins, after one that ends at a position, if the token there joins the two
+abbrev pub next_after : Bool → ℕ → ℕ → Option ℕ
+next_after joins n j = cond (nat_lt 0 n) (cond joins (Some (j + 1)) None) None
 
 -- the first of them is given, and the others are left
 abbrev pub Gives : Params → Option Param → Params → Type 0

@@ -48,7 +48,7 @@ impl Written<'_> {
         }
     }
 
-    // The place of the token of the node at a position; 0 where none stands, as in the definition.
+    // The place of the token of the node at a position; 0 where none stands, which no sheet that was parsed has, so that an Option would only be taken apart.
     fn own_place(self, top: usize, at: usize) -> usize
         ensures { result ≡ own_place (look_of (source_of self.entry)) (node_in top self.entry.nodes.now at) }
     {
@@ -69,7 +69,7 @@ impl Written<'_> {
         }
     }
 
-    // The place of the expression at a position; brackets alone have that of what is in them. Each node leads to the next, so no slice holds them.
+    // The place of the expression at a position; brackets alone have that of what is in them. A loop: `successors` would go by pairs of positions and end in the last of them, in no fewer words.
     pub fn place(self, top: usize, at: usize) -> usize
         ensures { result ≡ place_of (raw_at (source_of self.entry) top self.entry.nodes.now at) }
     {
@@ -90,7 +90,7 @@ impl Written<'_> {
         self.find(lists, self.token(name))
     }
 
-    // The fault of the argument at a position, given the first inside it. Whether a list is wanted is a flag, as in the definition.
+    // The fault of the argument at a position, given the first inside it. Whether a list is wanted is a flag, as `wants_list` tells it of a parameter that is missing too.
     pub fn arg_fault(
         self,
         lists: &[usize],
@@ -111,7 +111,7 @@ impl Written<'_> {
         }
     }
 
-    // How many arguments stand at a position: each leads to the one before, so no slice holds them.
+    // How many arguments stand at a position. A loop: `successors` would go by pairs of positions, in no fewer words.
     fn count_args(self, top: usize, at: usize) -> usize
         ensures { result ≡ count_args (args_at (source_of self.entry) top self.entry.nodes.now at) }
     {
@@ -126,7 +126,7 @@ impl Written<'_> {
         count
     }
 
-    // The parts of the rule at a position.
+    // The parts of the rule at a position. Who goes through all rules goes through the positions of the nodes, since a rule's parts lie below its own.
     pub fn rule(self, at: usize) -> Option<Ruled>
         ensures { result ≡ ruled_of (node_in (length self.entry.nodes.now) self.entry.nodes.now at) }
     {
@@ -162,7 +162,7 @@ impl Written<'_> {
         same_name(self.text, self.token(rule.name), token).then_some(rule.params)
     }
 
-    // Where the parameters begin of the first rule below a position that is named so.
+    // Where the parameters begin of the first rule below a position that is named so. A loop: an adapter asks which value its closure gives, and of `head_named` only what its answer means is said.
     pub fn rule_named(self, count: usize, token: Token) -> Option<usize>
         ensures { named self.entry.text.now (rules_to (source_of self.entry) count self.entry.nodes.now) token ≡ head_at self.entry result }
     {

@@ -15,7 +15,7 @@ use crate::written::Written;
 use pile::Pile;
 
 impl Written<'_> {
-    // Declares a parameter, and gives the first of its names that is declared already. There is room, as the clauses ask, so what `push` answers is no news.
+    // Declares a parameter, and gives the first of its names that is declared already. The two piles are no `Scope`: `Params::declare` is public and asks for less room than that has.
     fn declare_param(
         self,
         param: Param,
@@ -33,13 +33,13 @@ impl Written<'_> {
         let twice = self.declared(names.as_slice(), lists.as_slice(), self.token(param.name));
         match param.length {
             None => {
-                let _ = names.push(param.name);
+                names.push(param.name).unwrap();
                 twice
             }
             Some(length) => {
-                let _ = lists.push(param.name);
+                lists.push(param.name).unwrap();
                 let again = self.declared(names.as_slice(), lists.as_slice(), self.token(length));
-                let _ = names.push(length);
+                names.push(length).unwrap();
                 earlier(twice, again)
             }
         }
@@ -57,6 +57,7 @@ impl Params<'_> {
         ensures room { (room names.new ≡ room names.old) × (room lists.new ≡ room lists.old) }
     {
         let sheet = self.sheet;
+        // A `for`: a fold's closure would owe the room at each call.
         let mut fault = None;
         for param in self {
             let twice = sheet.declare_param(param, names, lists);

@@ -14,7 +14,7 @@ use grammar::Node;
 use pile::Pile;
 
 impl Written<'_> {
-    // The first fault in the expression at a position below `top`. The names in force are the same again afterwards.
+    // The first fault in the expression at a position below `top`. The names in force are the same again afterwards. There is room for a name for each position below `top`: that changes with each part, so no type of the names can hold it.
     #[cycle(args_fault_expr_fault)]
     pub(crate) fn expr_fault(
         &self,
@@ -55,7 +55,7 @@ impl Written<'_> {
                 let twice = self.declared(names.as_slice(), lists, self.token(name));
                 let bound = self.expr_fault(lists, names, at, bound);
                 let mark = names.mark();
-                let _ = names.push(name);
+                names.push(name).unwrap();
                 let body = self.expr_fault(lists, names, at, body);
                 names.fall_back(mark);
                 earlier(earlier(twice, bound), body)
@@ -92,7 +92,10 @@ impl Written<'_> {
                 ..
             } => {
                 let claimed = self.expr_fault(lists, names, at, inner);
-                let conditions = self.conditions_fault(names.as_slice(), conditions);
+                let conditions = self.conditions_fault(
+                    names.as_slice(),
+                    self.conditions(conditions),
+                );
                 earlier(claimed, conditions)
             }
             Node::Nest { inner, .. } => self.expr_fault(lists, names, at, inner),

@@ -12,7 +12,7 @@ pub struct Param {
 // The parameters of a head that are still to come: where the next begins, and how many more there may be after it.
 #[derive(Clone, Copy, Drop)]
 pub struct Params<'t> {
-    pub(crate) sheet: Written<'t>,
+    pub sheet: Written<'t>,
     pub(crate) next: Option<usize>,
     pub(crate) rest: usize,
     ghost within: { (unwrap_or next 0 ≤ 16384) × (rest ≤ 16384) },

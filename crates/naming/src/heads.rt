@@ -1,4 +1,4 @@
-ghost use Rattle.std.specs.Prelude.{◌≡◌, ◌≤◌, drop, length, is_some, unwrap_or};
+ghost use Rattle.std.specs.Prelude.{◌≡◌, ◌<◌, ◌≤◌, true, drop, length, is_some, unwrap_or};
 ghost use Rattle.std.specs.Iterator.{item_count};
 ghost use Rattle.grammar.specs.Stretches.{params_at, param_at, past};
 ghost use Rattle.grammar.specs.Trees.{look_of};
@@ -30,6 +30,19 @@ impl<'t> Written<'t> {
         }
     }
 
+    // Where the next begins after one that ends at a position: past the token there, if it joins the two and there may be more. Only then does the sum stay within its type, so it stands in a branch.
+    pub(crate) fn past_joint(self, joins: bool, rest: usize, end: usize) -> Option<usize>
+        requires { joins ≡ true → end < length self.tokens.now }
+        ensures told { result ≡ next_after joins rest end }
+        ensures near { unwrap_or result 0 ≤ 16384 }
+    {
+        if rest > 0 && joins {
+            Some(end + 1)
+        } else {
+            None
+        }
+    }
+
     // The parameters that begin at a position.
     pub fn params(self, at: usize) -> Params<'t>
         ensures params { left result ≡ params_at (length self.entry.tokens.now) (look_of (source_of self.entry)) at }
@@ -46,18 +59,6 @@ impl<'t> Written<'t> {
 }
 
 impl Params<'_> {
-    // Where the next parameter begins after one that ends at a position: past the comma, if one stands there and there may be more. Only there does the sum stay within its type, so it stands in a branch.
-    fn after(&self, end: usize) -> Option<usize>
-        ensures told { result ≡ next_after (look_of (source_of self.now.sheet)) self.now.rest end }
-        ensures near { unwrap_or result 0 ≤ 16384 }
-    {
-        if self.rest > 0 && self.sheet.token(end).is(Kind::Comma) {
-            Some(end + 1)
-        } else {
-            None
-        }
-    }
-
     // How many there are.
     pub fn number(self) -> usize
         ensures { result ≡ length (left self.entry) }
@@ -84,7 +85,8 @@ impl Iterator for Params<'_> {
     fn next(&mut self) -> Option<Param> {
         let at = self.next?;
         let (param, end) = self.sheet.param(at);
-        self.next = self.after(end);
+        let joins = self.sheet.token(end).is(Kind::Comma);
+        self.next = self.sheet.past_joint(joins, self.rest, end);
         self.rest = self.rest.saturating_sub(1);
         Some(param)
     }

@@ -44,7 +44,7 @@ impl<'t> Written<'t> {
         self.source().token(i)
     }
 
-    // The node at a position, if that lies below `top`. The two are no struct of their own: a part is read below its parent, so both are other ones at each call.
+    // The node at a position, if that lies below `top`. The two are no struct of their own: a part is read below its node, so `expr(at, left)` has two new ones at each call, and a struct would be made for each to be taken apart here.
     pub fn node(self, top: usize, at: usize) -> Option<Node>
         ensures read { result ≡ node_in top self.entry.nodes.now at }
         ensures below { elim result [ Some n ↦ at < top | None ↦ Unit {0} ] }

@@ -5,12 +5,11 @@ ghost use Rattle.naming.specs.Faults.{rules_faults, name_fault};
 ghost use Rattle.naming.specs.Least.{least};
 ghost use Rattle.naming.specs.Reaches.{sheet_of};
 ghost use Rattle.naming.specs.Scopes as scopes;
-ghost use Rattle.naming.specs.Sources.{source_of, rules_of, sheet_in};
+ghost use Rattle.naming.specs.Sources.{source_of, rules_of};
 
 use crate::least::earlier;
 use crate::scope::{LIST_ROOM, NAME_ROOM, Scope};
 use crate::written::Written;
-use grammar::Node;
 use letters::{Kind, Token};
 use pile::Pile;
 
@@ -31,8 +30,14 @@ impl Written<'_> {
         let rule = self.rule(at)?;
         let twice = self.named_twice(at, self.token(rule.name));
         let head = scope.enter(self.params(rule.params));
-        let needs = self.optional_fault(scope.names.as_slice(), Kind::Needs, rule.needs);
-        let gives = self.optional_fault(scope.names.as_slice(), Kind::Gives, rule.gives);
+        let needs = self.conditions_fault(
+            scope.names.as_slice(),
+            self.optional(Kind::Needs, rule.needs),
+        );
+        let gives = self.conditions_fault(
+            scope.names.as_slice(),
+            self.optional(Kind::Gives, rule.gives),
+        );
         let body = self.expr_fault(scope.lists.as_slice(), &mut scope.names, at, rule.body);
         earlier(earlier(twice, head), earlier(earlier(needs, gives), body))
     }
@@ -41,6 +46,7 @@ impl Written<'_> {
     fn rules_fault(self, scope: &mut Scope<'_>) -> Option<usize>
         ensures { result ≡ name_fault self.entry.text.now (rules_of self.entry) }
     {
+        // A `for`, by positions: each turn changes the scope, and a rule's parts lie below it.
         let mut fault = None;
         for at in 0..self.nodes.len() {
             let here = self.rule_fault(scope, at);
@@ -48,17 +54,17 @@ impl Written<'_> {
         }
         fault
     }
-}
 
-// The first place at which a name is at fault: unknown, declared twice, of the wrong sort, or with a wrong number of arguments.
-pub fn name_fault<'t>(text: &'t [u8], tokens: &'t [Token], nodes: &'t [Node]) -> Option<usize>
-    ensures { result ≡ name_fault text.now (sheet_in text.now tokens.now nodes.now) }
-{
-    let mut name_room = [0; NAME_ROOM];
-    let mut list_room = [0; LIST_ROOM];
-    let mut scope = Scope {
-        names: Pile::over(&mut name_room),
-        lists: Pile::over(&mut list_room),
-    };
-    Written::new(text, tokens, nodes).rules_fault(&mut scope)
+    // The first place at which a name is at fault: unknown, declared twice, of the wrong sort, or with a wrong number of arguments.
+    pub fn name_fault(self) -> Option<usize>
+        ensures { result ≡ name_fault self.entry.text.now (rules_of self.entry) }
+    {
+        let mut name_room = [0; NAME_ROOM];
+        let mut list_room = [0; LIST_ROOM];
+        let mut scope = Scope {
+            names: Pile::over(&mut name_room),
+            lists: Pile::over(&mut list_room),
+        };
+        self.rules_fault(&mut scope)
+    }
 }

@@ -1,11 +1,11 @@
-// An argument, and those before it, by the positions of their nodes: the fields of a node, which are no type of their own there.
+// An argument, and those before it, by the positions of their nodes. The node itself has these two as fields: a type there would have to be named in each match and in each definition of the grammar.
 #[derive(Clone, Copy)]
 pub struct Last {
     pub before: usize,
     pub last: usize,
 }
 
-// A rule by its tokens, where its parameters and conditions would begin, and its body's node; these too are a node's fields.
+// A rule by its tokens, where its parameters and conditions would begin, and its body's node; these too are fields of the node.
 #[derive(Clone, Copy)]
 pub struct Ruled {
     pub keyword: usize,

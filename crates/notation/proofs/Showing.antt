@@ -1,16 +1,22 @@
 -- The terms of a row, one by one, and when there are none.
-use Rattle.std.proofs.Common.{◌≡◌, ℕ, zero, suc, ◌+◌, ◌<◌, Bool, true, false, cond, ◌&&◌, List, [], ◌∷◌, ◌++◌, length, get_or, ℤ, pos, codes, decimal, sym, refl, ap, ◌∙◌, ap₂, ⊎_elim, add-one, arith}
+use Rattle.std.proofs.Common.{◌≡◌, ℕ, zero, suc, ◌+◌, ◌<◌, Bool, true, false, cond, ◌&&◌, List, [], ◌∷◌, ◌++◌, length, get_or, ℤ, pos, codes, sym, refl, ap, ◌∙◌, ap₂, ⊎_elim, add-one, arith}
 use Rattle.std.specs.List.{list_all}
-use Rattle.std.specs.Fmt.{signed_decimal}
 use Rattle.std.proofs.lemmas.Bool.{and_parts, cases_eq, true≢false}
+use Rattle.std.proofs.lemmas.List.{append-nil}
 use Rattle.ints.specs.Tests.{is_zero}
 use Rattle.rows.specs.declared.row.Row.{Row}
 use Rattle.rows.specs.Meaning.{coef}
-use Rattle.notation.specs.Written.{term_text, terms_to, or_zero}
+use Rattle.notation.specs.Written.{term_word, term_text, terms_to, or_zero}
 
-pub terms_more : (r : Row) (n : ℕ) → terms_to r n ++ term_text (coef r n) n ≡ terms_to r (n + 1)
+terms_more : (r : Row) (n : ℕ) → terms_to r n ++ term_text (coef r n) n ≡ terms_to r (n + 1)
 unfolding terms_to
 terms_more r n = rw add-one
+
+pub terms_some : (r : Row) (n : ℕ) → is_zero (coef r n) ≡ false → terms_to r n ++ (term_word (coef r n) n ++ codes " ") ≡ terms_to r (n + 1)
+terms_some r n h = ap (λ b. terms_to r n ++ cond b [] (term_word (coef r n) n ++ codes " ")) (sym h) ∙ terms_more r n
+
+pub terms_none : (r : Row) (n : ℕ) → is_zero (coef r n) ≡ true → terms_to r n ≡ terms_to r (n + 1)
+terms_none r n h = sym (append-nil (terms_to r n)) ∙ ap (λ b. terms_to r n ++ cond b [] (term_word (coef r n) n ++ codes " ")) (sym h) ∙ terms_more r n
 
 zero_at : (zs : List ℤ) (j : ℕ) → list_all is_zero zs ≡ true → is_zero (get_or zs j (pos 0)) ≡ true
 zero_at [] j h = refl
@@ -18,7 +24,7 @@ zero_at (z ∷ zs) zero h = (and_parts _ _ h).0
 zero_at (z ∷ zs) (suc j) h = zero_at zs j (and_parts _ _ h).1
 
 no_term : (c : ℤ) (j : ℕ) → is_zero c ≡ true → term_text c j ≡ []
-no_term c j h = ap (λ b. cond b [] (signed_decimal c ++ (codes "*q" ++ (decimal j ++ codes " ")))) h
+no_term c j h = ap (λ b. cond b [] (term_word c j ++ codes " ")) h
 
 none_to : (r : Row) (n : ℕ) → list_all is_zero r.coefs ≡ true → terms_to r n ≡ []
 unfolding terms_to
@@ -42,8 +48,7 @@ some_back [] ys h = h
 some_back (x ∷ xs) ys h = refl
 
 some_term : (c : ℤ) (j : ℕ) → is_zero c ≡ false → some_of (term_text c j) ≡ true
-some_term c j h =
-    ap (λ b. some_of (cond b [] (signed_decimal c ++ (codes "*q" ++ (decimal j ++ codes " "))))) h ∙ some_back (signed_decimal c) (codes "*q" ++ (decimal j ++ codes " ")) refl
+some_term c j h = ap (λ b. some_of (cond b [] (term_word c j ++ codes " "))) h ∙ some_back (term_word c j) (codes " ") refl
 
 some_to : (r : Row) (n j : ℕ) → j < n → is_zero (coef r j) ≡ false → some_of (terms_to r n) ≡ true
 unfolding terms_to

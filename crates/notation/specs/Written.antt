@@ -8,12 +8,15 @@ use Rattle.rows.specs.declared.row.Kind.TheVariants.{AtMost, Unequal}
 use Rattle.rows.specs.Meaning.{coef}
 
 abbrev pub relation : Kind → List ℕ
-relation AtMost = codes "<= "
-relation Unequal = codes "!= "
+relation AtMost = codes "<="
+relation Unequal = codes "!="
 
--- a non-zero coefficient, its quantity and a blank
+abbrev pub term_word : ℤ → ℕ → List ℕ
+term_word c j = signed_decimal c ++ (codes "*q" ++ decimal j)
+
+-- the term of a non-zero coefficient, and a blank
 abbrev pub term_text : ℤ → ℕ → List ℕ
-term_text c j = cond (is_zero c) [] (signed_decimal c ++ (codes "*q" ++ (decimal j ++ codes " ")))
+term_text c j = cond (is_zero c) [] (term_word c j ++ codes " ")
 
 -- the terms of the quantities below n, in their order
 unfoldable pub terms_to : Row → ℕ → List ℕ
@@ -25,4 +28,4 @@ or_zero [] = codes "0 "
 or_zero (c ∷ cs) = c ∷ cs
 
 abbrev pub row_text : Row → List ℕ
-row_text r = or_zero (terms_to r 16) ++ (relation r.kind ++ signed_decimal r.bound)
+row_text r = or_zero (terms_to r 16) ++ (relation r.kind ++ (codes " " ++ signed_decimal r.bound))

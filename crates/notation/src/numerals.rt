@@ -1,4 +1,5 @@
-ghost use Rattle.std.specs.Prelude.{◌≡◌, IfOk, IfErr, IfSome, IfNone, decimal};
+ghost use Rattle.std.specs.Prelude.{◌≡◌, IfOk, IfErr, IfSome, IfNone, decimal, map};
+ghost use Rattle.std.specs.List.{join_with_byte};
 ghost use Rattle.notation.specs.Misreadings.{NoNumber, WritesNone};
 
 use crate::misread::Misread;
@@ -30,4 +31,16 @@ pub fn read_u32(heap: Global, word: &str) -> Result<u32, Misread>
     ensures refuses { IfErr result (λ e. NoNumber e word.now) }
 {
     read_value::<u32>(heap, word)?.ok_or(Misread::Number)
+}
+
+// The numbers that a text writes, with a blank between each two.
+pub fn read_numbers(heap: Global, text: &str) -> Result<Vec<u32>, Misread>
+    ensures { IfOk result (λ numbers. text.now ≡ join_with_byte 32 (map decimal numbers.items)) }
+{
+    let mut numbers = Vec::new(heap);
+    for word in text.split(' ') {
+        let n = read_u32(heap, word)?;
+        numbers.push(n)?;
+    }
+    Ok(numbers)
 }

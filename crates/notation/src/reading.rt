@@ -1,40 +1,21 @@
-ghost use Rattle.std.specs.Prelude.{◌≡◌, ◌<◌, IfOk};
+ghost use Rattle.std.specs.Prelude.{◌≡◌, IfOk};
 ghost use Rattle.notation.specs.Written.{row_text};
 
 use crate::misread::Misread;
+use crate::relation::Relation;
+use crate::term::Term;
 use crate::writing::row_text;
-use rows::{Kind, QUANTITIES, Row};
+use rows::{QUANTITIES, Row};
 use std::alloc::Global;
 
-fn read_kind(word: &str) -> Result<Kind, Misread> {
-    match word {
-        "<=" => Ok(Kind::AtMost),
-        "!=" => Ok(Kind::Unequal),
-        _ => Err(Misread::Relation),
-    }
-}
-
-// A coefficient and its quantity.
-fn read_term(word: &str) -> Result<(i32, usize), Misread>
-    ensures { IfOk result (λ t. t.1 < 16) }
-{
-    let (number, name) = word.split_once("*q").ok_or(Misread::Term)?;
-    let c = number.parse::<i32>().map_err(|_| Misread::Limits)?;
-    let j = name.parse::<usize>().map_err(|_| Misread::Quantity)?;
-    if j >= QUANTITIES {
-        return Err(Misread::Quantity);
-    }
-    Ok((c, j))
-}
-
-fn read_terms(text: &str) -> Result<[i32; 16], Misread> {
-    let mut coefs = [0; 16];
+fn read_terms(text: &str) -> Result<[i32; QUANTITIES], Misread> {
+    let mut coefs = [0; QUANTITIES];
     if text == "0" {
         return Ok(coefs);
     }
     for word in text.split(' ') {
-        let (c, j) = read_term(word)?;
-        coefs[j] = c;
+        let term = word.parse::<Term>()?;
+        coefs[term.quantity] = term.coef;
     }
     Ok(coefs)
 }
@@ -43,13 +24,13 @@ fn read_terms(text: &str) -> Result<[i32; 16], Misread> {
 fn guess_row(text: &str) -> Result<Row, Misread> {
     let (front, number) = text.rsplit_once(' ').ok_or(Misread::Short)?;
     let (terms, relation) = front.rsplit_once(' ').ok_or(Misread::Short)?;
-    let kind = read_kind(relation)?;
+    let Relation(kind) = relation.parse()?;
     let bound = number.parse::<i32>().map_err(|_| Misread::Bound)?;
     let coefs = read_terms(terms)?;
     Row::new(coefs, bound, kind).ok_or(Misread::Limits)
 }
 
-// The row that a text writes; there is one text for each row.
+// The row that a text writes; there is one text for each row. `read_value` would say only that there is none, and not what is misread.
 pub fn read_row(heap: Global, text: &str) -> Result<Row, Misread>
     ensures { IfOk result (λ row. text.now ≡ row_text row) }
 {

@@ -1,42 +1,13 @@
-ghost use Rattle.std.specs.Prelude.{◌≡◌, ◌++◌, Some, IfOk, string_bytes};
-ghost use Rattle.notation.specs.Written.{relation, term_text, terms_to, or_zero, row_text};
+ghost use Rattle.std.specs.Prelude.{◌≡◌, Some, IfOk, string_bytes};
+ghost use Rattle.notation.specs.Written.{terms_to, or_zero, row_text};
 
-use rows::{Kind, Row};
+use crate::relation::Relation;
+use crate::term::Term;
+use rows::Row;
 use std::alloc::{AllocError, Global};
 use std::fmt;
 
-// The relation that a kind of row is written with, and a blank.
-#[derive(Clone, Copy)]
-struct Relation(Kind);
-
-impl fmt::Display for Relation {
-    ghost output = { λ r. Some (relation r.0) };
-
-    fn fmt<W: fmt::Write>(&self, f: &mut fmt::Formatter<W>) -> fmt::Result {
-        f.write_str(match self.0 {
-            Kind::AtMost => "<= ",
-            Kind::Unequal => "!= ",
-        })
-    }
-}
-
-// A coefficient, its quantity and a blank; nothing where the coefficient is 0.
-#[derive(Clone, Copy)]
-struct Term(i32, usize);
-
-impl fmt::Display for Term {
-    ghost output = { λ t. Some (term_text t.0 t.1) };
-
-    fn fmt<W: fmt::Write>(&self, f: &mut fmt::Formatter<W>) -> fmt::Result {
-        let Term(c, j) = *self;
-        if c == 0 {
-            return Ok(());
-        }
-        write!(f, "{c}*q{j} ")
-    }
-}
-
-// The terms of a row, in the order of their quantities.
+// The terms of a row, in the order of their quantities, with a blank after each; none for a coefficient of 0.
 #[derive(Clone, Copy)]
 struct Terms<'a>(&'a Row);
 
@@ -45,8 +16,13 @@ impl fmt::Display for Terms<'_> {
 
     fn fmt<W: fmt::Write>(&self, f: &mut fmt::Formatter<W>) -> fmt::Result {
         for (j, c) in self.0.coefs().iter().enumerate() {
-            let term = Term(*c, j);
-            write!(f, "{term}")?;
+            if *c != 0 {
+                let term = Term {
+                    coef: *c,
+                    quantity: j,
+                };
+                write!(f, "{term} ")?;
+            }
         }
         Ok(())
     }
@@ -79,7 +55,7 @@ impl fmt::Display for Written<'_> {
         let sum = Sum(self.0);
         let relation = Relation(self.0.kind());
         let bound = self.0.bound();
-        write!(f, "{sum}{relation}{bound}")
+        write!(f, "{sum}{relation} {bound}")
     }
 }
 

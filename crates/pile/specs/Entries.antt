@@ -8,3 +8,7 @@ entries p = take p.len p.slots.now
 
 abbrev pub room : {T : Type 0} → Pile T → ℕ
 room p = length p.slots.now
+
+-- whose slots they are
+abbrev pub lender : {T : Type 0} → Pile T → ℕ
+lender p = p.slots.ghost_name

@@ -1,14 +1,6 @@
-use std::error::Error;
-use std::fmt;
+use thiserror::Error;
 
 // There is no room for one entry more.
-#[derive(Clone, Copy, Debug, PartialEq, Eq, Hash)]
+#[derive(Clone, Copy, Debug, PartialEq, Eq, Hash, Error)]
+#[error("no room for one entry more")]
 pub struct Full;
-
-impl fmt::Display for Full {
-    fn fmt<W: fmt::Write>(&self, f: &mut fmt::Formatter<W>) -> fmt::Result {
-        write!(f, "no room for one entry more")
-    }
-}
-
-impl Error for Full {}

@@ -1,6 +1,6 @@
 ghost use Rattle.std.specs.Prelude.{◌≡◌, [], ◌∷◌, ◌++◌, length, take, if◌then◌else◌, is_ok, nat_lt};
 ghost use Rattle.std.specs.List.{slice_get};
-ghost use Rattle.pile.specs.Entries.{entries, room};
+ghost use Rattle.pile.specs.Entries.{entries, room, lender};
 
 use super::{Full, Pile};
 
@@ -9,6 +9,7 @@ impl<'a, T: Copy> Pile<'a, T> {
     pub fn over(slots: &'a mut [T]) -> Pile<'a, T>
         ensures empty { entries result ≡ [] }
         ensures room { room result ≡ length slots.old }
+        ensures lender { lender result ≡ slots.entry.ghost_name }
     {
         Pile { slots, len: 0 }
     }
@@ -37,6 +38,7 @@ impl<'a, T: Copy> Pile<'a, T> {
     // Puts an entry on top. Where there is no room, that is the answer and nothing changes.
     pub fn push(&mut self, entry: T) -> Result<(), Full>
         ensures room { room self.new ≡ room self.old }
+        ensures lender { lender self.new ≡ lender self.old }
         ensures value { is_ok result ≡ nat_lt (length (entries self.old)) (room self.old) }
         ensures held { entries self.new ≡ (if is_ok result then entries self.old ++ entry ∷ [] else entries self.old) }
     {
@@ -51,6 +53,7 @@ impl<'a, T: Copy> Pile<'a, T> {
     // Takes away the entries from the mark on; a mark above the top takes none.
     pub fn fall_back(&mut self, mark: usize)
         ensures room { room self.new ≡ room self.old }
+        ensures lender { lender self.new ≡ lender self.old }
         ensures held { entries self.new ≡ take mark (entries self.old) }
     {
         if mark < self.len {

@@ -7,7 +7,7 @@ ghost use Rattle.provers.specs.WorkLists.{answered};
 
 use crate::derived::Derived;
 use crate::worklist::{PastLimit, WorkList, push};
-use rows::{Kind, Question, Row};
+use rows::{Kind, QUANTITIES, Question, Row};
 use std::array;
 
 fn negated_coef(row: &Row, j: usize) -> i32
@@ -16,7 +16,7 @@ fn negated_coef(row: &Row, j: usize) -> i32
     -row.coef(j)
 }
 
-fn negated_coefs(row: &Row) -> [i32; 16]
+fn negated_coefs(row: &Row) -> [i32; QUANTITIES]
     ensures { result ≡ map (λ j. neg_ℤ (coef row.now j)) (range_with_len 0 16) }
 {
     array::from_fn(|j| negated_coef(row, j))

@@ -2,18 +2,19 @@ ghost use Rattle.std.specs.Prelude.{◌≡◌, ◌<◌, pos, ◌<ℤ◌};
 ghost use Rattle.std.specs.Result.{result_ok};
 ghost use Rattle.provers.specs.Derivations.{coef_at, quotients, within, kept, combine};
 
-use crate::arrays::try_each;
-use crate::derived::Derived;
+use crate::derived::{Derived, MULTIPLIERS};
 use crate::numbers::{Blend, Divisor};
 use crate::worklist::PastLimit;
+use ints::try_each;
+use rows::QUANTITIES;
 use std::array;
 
 // Everything divided, where that keeps the limits.
 fn reduce(
     by: Divisor,
-    coefs: &[i64; 16],
+    coefs: &[i64; QUANTITIES],
     bound: i64,
-    times: &[u64; 25],
+    times: &[u64; MULTIPLIERS],
 ) -> Result<Derived, PastLimit>
     ensures { result_ok result ≡ kept within (quotients by.g coefs.now bound times.now) }
 {

@@ -5,13 +5,14 @@ ghost use Rattle.rows.specs.Questions.{well_shaped};
 ghost use Rattle.provers.specs.Lengths.{short-if};
 
 use crate::begin::begin;
+use crate::derived::MULTIPLIERS;
 use crate::eliminate::{eliminate_all, first_below};
 use crate::prover::{Prover, offer};
 use crate::worklist::WorkList;
 use rows::Question;
 
 // Multipliers under which the facts and the negated goal add to 0 < 0, found by elimination.
-fn refutation(question: Question<'_>) -> Option<[u32; 25]>
+fn refutation(question: Question<'_>) -> Option<[u32; MULTIPLIERS]>
     ensures { result ≡ refutation question.entry.facts.now question.entry.goal.now }
 {
     let mut rows = WorkList::new();

@@ -1,7 +1,6 @@
 // Provers: what proposes certificates that nobody has to believe.
 #![tactic(auto)]
 
-mod arrays;
 mod begin;
 mod combine;
 mod derived;

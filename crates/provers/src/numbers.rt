@@ -6,13 +6,7 @@ ghost use Rattle.provers.specs.Derivations.{blend, quotient, kept, modest};
 
 use crate::worklist::PastLimit;
 use ints::{divisor, times};
-use rows::ROW_LIMIT;
-
-// No multiplier of a derived row is larger.
-pub const MOST_TIMES: u32 = 1_000_000;
-
-// No coefficient or bound of a derived row lies further from 0.
-pub const MOST_SIZE: u32 = ROW_LIMIT as u32;
+use rows::{MOST_TIMES, ROW_LIMIT};
 
 // How two rows are added: a times the one plus b times the other. A sum always fits.
 #[derive(Clone, Copy)]
@@ -52,29 +46,23 @@ impl Divisor {
         Divisor { g: divisor(times) }
     }
 
-    // The size divided, where that is at most the limit.
-    fn size(self, n: u64, most: u32) -> Result<u32, PastLimit>
-        ensures { result_ok result ≡ kept (λ size. nat_le size most) (n / self.g) }
-    {
-        let size = n / self.g;
-        if size > u64::from(most) {
-            return Err(PastLimit);
-        }
-        Ok(size as u32)
-    }
-
     // z divided, where that keeps a row's limits.
     pub(crate) fn coef(self, z: i64) -> Result<i32, PastLimit>
         ensures { result_ok result ≡ kept small (quotient self.g z) }
     {
-        let size = self.size(z.unsigned_abs(), MOST_SIZE)? as i32;
-        Ok(if z < 0 { -size } else { size })
+        match i32::try_from(z.unsigned_abs() / self.g) {
+            Ok(size) if size <= ROW_LIMIT => Ok(if z < 0 { -size } else { size }),
+            _ => Err(PastLimit),
+        }
     }
 
-    // A multiplier divided, where that keeps the limit.
+    // A multiplier divided, where that keeps the limit. One function for both would take the type and the limit, and say of each what it keeps.
     pub(crate) fn count(self, n: u64) -> Result<u32, PastLimit>
         ensures { result_ok result ≡ kept modest (n / self.g) }
     {
-        self.size(n, MOST_TIMES)
+        match u32::try_from(n / self.g) {
+            Ok(count) if count <= MOST_TIMES => Ok(count),
+            _ => Err(PastLimit),
+        }
     }
 }

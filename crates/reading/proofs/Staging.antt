@@ -1,5 +1,5 @@
 -- From stage to stage: the tokens that were cut, and the sheet that was parsed.
-use Rattle.std.proofs.Common.{◌≡◌, ℕ, ◌-◌, ◌≤◌, ⊎_elim, true, List, [], length, get_or, take, drop, ℤ, Some, None, Ok, Err, Option, Result, MatchResult, sym, refl, ap, ◌∙◌, subst, ap₂, inl, inr, arith, leb-true}
+use Rattle.std.proofs.Common.{◌≡◌, ℕ, ◌≤◌, ⊎_elim, true, List, [], length, get_or, take, drop, ℤ, Some, None, Ok, Err, Option, Result, MatchResult, sym, refl, ap, ◌∙◌, subst, ap₂, inl, inr, arith, leb-true}
 use Rattle.std.specs.Prelude.{IsErrAnd}
 use Rattle.std.proofs.lemmas.List.{take_all, take_at, take-append-drop, length-take-le, get_or_past}
 use Rattle.std.proofs.ByRecursion.{All-get_or}
@@ -49,13 +49,13 @@ pub enough : (low high : ℤ) (records : ℕ) → in_range low high records ≡ 
 enough low high records i = leb-true 4096 records (and_parts _ _ (and_parts _ _ i).1).1
 
 -- the tokens at the front
-pub front : (ts old all : List Token) (n : ℕ) → all ≡ laid ts old → n ≡ length ts → take (n - 0) all ≡ ts
-front ts old all n e h = ap₂ take (let k : n - 0 ≡ length ts = omega arith in k) e ∙ take_at ts (drop (length ts) old) (length ts) refl
+pub front : (ts old all : List Token) (n : ℕ) → all ≡ laid ts old → n ≡ length ts → take n all ≡ ts
+front ts old all n e h = ap₂ take h e ∙ take_at ts (drop (length ts) old) (length ts) refl
 
-pub cut-front : (text : List ℕ) (old all : List Token) (n : ℕ) → Ok n ≡ answer (cut_of text) → all ≡ laid (cut_of text).tokens old → take (n - 0) all ≡ (cut_of text).tokens
+pub cut-front : (text : List ℕ) (old all : List Token) (n : ℕ) → Ok n ≡ answer (cut_of text) → all ≡ laid (cut_of text).tokens old → take n all ≡ (cut_of text).tokens
 cut-front text old all n e w = front (cut_of text).tokens old all n w (cut_ok (cut_of text) n e).1
 
-pub cut-few : (text : List ℕ) (old all : List Token) (n k : ℕ) → Ok n ≡ answer (cut_of text) → all ≡ laid (cut_of text).tokens old → n ≤ k → length (take (n - 0) all) ≤ k
+pub cut-few : (text : List ℕ) (old all : List Token) (n k : ℕ) → Ok n ≡ answer (cut_of text) → all ≡ laid (cut_of text).tokens old → n ≤ k → length (take n all) ≤ k
 cut-few text old all n k e w h = let a = ap length (cut-front text old all n e w) in let b = (cut_ok (cut_of text) n e).1 in omega arith
 
 -- their numerals are small
@@ -66,11 +66,11 @@ small text ts r e q = elim (cases_lt q (length ts)) [
 ]
 
 -- the sheet of the nodes that were made
-pub sheet-is : (text : List ℕ) (ts : List Token) (ns : List Node) (k : ℕ) → length ts ≤ 16384 → k ≤ 16384 → k ≤ length ns → sheet_in text ts (take (k - 0) ns) ≡ rules_to (source_of ts (length text)) k ns
+pub sheet-is : (text : List ℕ) (ts : List Token) (ns : List Node) (k : ℕ) → length ts ≤ 16384 → k ≤ 16384 → k ≤ length ns → sheet_in text ts (take k ns) ≡ rules_to (source_of ts (length text)) k ns
 sheet-is text ts ns k h l m =
     let s = source_of ts (length text) in
     let n = length-take-le k ns m in
-    let e : take 16384 (take (k - 0) ns) ≡ take k ns = ap (λ j. take 16384 (take j ns)) (let z : k - 0 ≡ k = omega arith in z) ∙ take_all 16384 (take k ns) (omega arith) in
+    let e : take 16384 (take k ns) ≡ take k ns = take_all 16384 (take k ns) (omega arith) in
     ap₂ (λ xs ys. rules_to (record { tokens = xs; end = length text }) (length ys) ys) (take_all 16384 ts h) e
     ∙ ap (λ j. rules_to s j (take k ns)) n
     ∙ sym (rules-front s k (take k ns) (drop k ns) (omega arith))

@@ -1,22 +1,23 @@
-ghost use Rattle.std.specs.Prelude.{◌≡◌, ℕ, ◌≤◌, length};
+ghost use Rattle.std.specs.Prelude.{◌≡◌, ◌≤◌, length};
 ghost use Rattle.reading.specs.Reading.{in_range, misspelling, misreading};
-ghost use Rattle.grammar.specs.Parsers.{look_in};
-ghost use Rattle.naming.specs.Sources.{sheet_in};
+ghost use Rattle.grammar.specs.Trees.{look_of};
+ghost use Rattle.naming.specs.Sources.{source_of, rules_of};
 ghost use Rattle.grammar.specs.Derives.{DSheet};
-ghost use Rattle.resolving.specs.Making.{Small};
+ghost use Rattle.resolving.specs.Making.{Fit};
 ghost use Rattle.reading.specs.Answers.{Answer, Staged, Checked};
 
 use counting::count_fault;
 use grammar::{Node as Raw, Tokens, Unread, parse};
 use language::Refusal;
-use letters::{Misspelt, Token, cut};
-use naming::{Written, name_fault};
+use letters::{MOST_BYTES, Misspelt, Token, cut};
+use naming::Written;
 use records::{Entry, Laid, Record, clear};
 use resolving::resolve;
 
 // So many records hold every sheet that is read.
 pub const LEAST_RECORDS: usize = 4_096;
 
+// The two bounds come from the caller as two numbers and go no further, so they are no type of their own.
 fn in_range(low: i32, high: i32, records: usize) -> bool
     ensures { result ≡ in_range low high records }
 {
@@ -45,22 +46,15 @@ fn misreading(why: Unread) -> Refusal
 }
 
 // Names, then counts; where both pass, the rules stand in the records, and how many there are is given.
-fn names_then_counts(
-    text: &[u8],
-    tokens: &[Token],
-    raw: &[Raw],
-    records: &mut [Record],
-) -> Result<usize, Refusal>
-    requires small { (q : ℕ) → Small (look_in tokens.now (length text.now) q) }
-    requires few { length tokens.now ≤ 16384 }
-    requires derived { DSheet (look_in tokens.now (length text.now)) (sheet_in text.now tokens.now raw.now) }
+fn names_then_counts(sheet: Written<'_>, records: &mut [Record]) -> Result<usize, Refusal>
+    requires fit { Fit sheet }
+    requires derived { DSheet (look_of (source_of sheet)) (rules_of sheet) }
     requires ample { 4096 ≤ length records.old }
-    ensures { Checked result text.now (sheet_in text.now tokens.now raw.now) records.new }
+    ensures { Checked result sheet.entry.text.now (rules_of sheet.entry) records.new }
 {
-    if let Some(place) = name_fault(text, tokens, raw) {
+    if let Some(place) = sheet.name_fault() {
         return Err(Refusal::Name { place });
     }
-    let sheet = Written::new(text, tokens, raw);
     let mut tables = Laid::over(records);
     resolve(sheet, &mut tables);
     match count_fault(sheet, &tables) {
@@ -76,15 +70,16 @@ fn stages(text: &[u8], low: i32, high: i32, records: &mut [Record]) -> Result<us
     if !in_range(low, high, records.len()) {
         return Err(Refusal::Range);
     }
-    let mut tokens = [Token::end(0); 16384];
+    let mut tokens = [Token::end(0); MOST_BYTES];
     let count = cut(text, &mut tokens).map_err(misspelling)?;
     let source = Tokens {
-        tokens: &tokens[0..count],
+        tokens: &tokens[..count],
         end: text.len(),
     };
-    let mut raw = [Raw::Blank; 16384];
+    let mut raw = [Raw::Blank; MOST_BYTES];
     let made = parse(source, &mut raw).map_err(misreading)?;
-    names_then_counts(text, source.tokens, &raw[0..made], records)
+    let sheet = Written::new(text, source.tokens, &raw[..made]);
+    names_then_counts(sheet, records)
 }
 
 // Reads a text in a range into records: the rules that it stands for stand there then, and how many there are is given; or the first stage at fault refuses, and every record is zero.

@@ -1,11 +1,11 @@
 -- What a table's laws give of the tables that are being laid.
-use Rattle.std.proofs.Common.{◌≡◌, ℕ, ◌+◌, ◌*◌, ◌/◌, ◌%◌, ◌<◌, ◌≤◌, List, length, get_or, set, ltb, true, false, Some, None, sym, ap, ◌∙◌, subst, arith}
+use Rattle.std.proofs.Common.{◌≡◌, ℕ, ◌+◌, ◌*◌, ◌/◌, ◌%◌, ◌<◌, ◌≤◌, Bool, cond, List, length, get_or, set, ltb, true, false, Some, None, sym, ap, ◌∙◌, subst, arith, lt-ltb}
 use Rattle.std.proofs.lemmas.List.{length-set}
 use Rattle.std.specs.List.{slice_get}
 use Rattle.records.specs.declared.counts.Counts.{Counts}
 use Rattle.records.specs.declared.record.Record.{Record}
 use Rattle.records.specs.declared.laid.Laid.{Laid}
-use Rattle.records.specs.Columns.{Column, Columns, first_slots}
+use Rattle.records.specs.Columns.{Column, Columns, first_slots, pushed}
 use Rattle.records.specs.Laying.{columns_of}
 use Rattle.records.specs.Tabling.{Within, TableLaws}
 use Rattle.records.specs.Slots.{length-slots, slots_full, slots_free, slots_get, slots-past}
@@ -34,3 +34,8 @@ module _ {E : Type 0} {slots : Record → List E} {with_slots : Record → List 
 
   pub fits_more : (new : Record) → count t.counts / 4 < length t.records.now → Within (with_count t.counts (count t.counts + 1)) (4 * length (set t.records.now (count t.counts / 4) new))
   fits_more new h = subst (λ n. Within (with_count t.counts (count t.counts + 1)) (4 * n)) (sym (length-set t.records.now (count t.counts / 4) new)) (laws.fits t.counts (4 * length t.records.now) t.within (omega arith))
+
+-- a push into a table with room: what it answers and holds, by its contract, is that the entry is put after the others
+module _ {E : Type 0} {slots : Record → List E} {with_slots : Record → List E → Record} {none : E} {count : Counts → ℕ} {with_count : Counts → ℕ → Counts} {table : Columns → Column E} {with_table : Columns → Column E → Columns} (laws : TableLaws slots with_slots none count with_count table with_table) where
+  pub taken : (p q : Columns) (x : E) (r : Bool) → r ≡ ltb (length (table p).entries) (table p).room → length (table p).entries < (table p).room → q ≡ cond r (with_table p (pushed (table p) x)) p → q ≡ with_table p (pushed (table p) x)
+  taken p q x r e h f = f ∙ ap (λ b. cond b (with_table p (pushed (table p) x)) p) (e ∙ lt-ltb (length (table p).entries) (table p).room h)

@@ -8,7 +8,7 @@ use Rattle.records.specs.declared.node.Node.TheVariants.{Blank}
 use Rattle.records.specs.declared.entry.Param.TheVariants.{Number}
 use Rattle.records.specs.declared.record.Record.{Record}
 use Rattle.records.specs.declared.laid.Laid.{Laid}
-use Rattle.language.specs.declared.owed.Duty.{Duty}
+use Rattle.language.specs.declared.duty.Duty.{Duty}
 use Rattle.records.specs.Laying.{columns_of}
 use Rattle.records.specs.Owing.{owed_at, row_at, Owes, OwesFrom, OwesAll}
 use Rattle.records.specs.Added.{RowPut, RowsPut, HeaderPut}

@@ -46,7 +46,7 @@ side-stays items more from to k = ap (map item_of) (stays items more from to k)
 
 condition-stays : (items more : List Item) (c : Condition) → SidesIn (length items) c → condition_in (items ++ more) c ≡ condition_in items c
 condition-stays items more c h =
-    ap₂ (λ l r. record { place = c.place; left = l; comparison = c.comparison; right = r }) (side-stays items more c.from c.middle h.0) (side-stays items more c.middle c.to h.1)
+    ap₂ (λ l r. record { place = c.place; left = l; comparison = c.comparison; right = r }) (side-stays items more c.left.from c.left.to h.left) (side-stays items more c.right.from c.right.to h.right)
 
 pub conditions-stay : (items more : List Item) (cs : List Condition) → AllByRecursion (SidesIn (length items)) cs → map (condition_in (items ++ more)) cs ≡ map (condition_in items) cs
 conditions-stay items more [] h = refl
@@ -57,7 +57,7 @@ longer [] ys = omega arith
 longer (x ∷ xs) ys = let h = longer xs ys in omega arith
 
 pub sides-in : (m n : ℕ) → m ≤ n → (cs : List Condition) → AllByRecursion (SidesIn m) cs → AllByRecursion (SidesIn n) cs
-sides-in m n h cs a = All-weaker (SidesIn m) (SidesIn n) (λ c k. (omega (arith, k.0), omega (arith, k.1))) cs a
+sides-in m n h cs a = All-weaker (SidesIn m) (SidesIn n) (λ c k. record { joined = k.joined; left = omega (arith, k.left); right = omega (arith, k.right) }) cs a
 
 pub listed-on : (s t : Tables) (from to : ℕ) (cs : List Tree.Condition) → Grows s t → Listed s from to cs → Listed t from to cs
 unfolding conditions_in

@@ -2,7 +2,7 @@
 use Rattle.std.specs.Prelude.{◌≡◌, ◌≢◌, ℕ, suc, ◌+◌, ◌<◌, ◌≤◌, List, [], ◌∷◌, ◌++◌, length, Some, Bool, true, false}
 use Rattle.std.specs.List.{slice_get}
 use Rattle.rows.specs.declared.row.Row.{Row}
-use Rattle.language.specs.declared.owed.Duty.{Duty}
+use Rattle.language.specs.declared.duty.Duty.{Duty}
 use Rattle.language.specs.Walking.{Obligation}
 use Rattle.records.specs.declared.laid.Laid.{Laid}
 use Rattle.records.specs.declared.owed.Owed.{Owed}

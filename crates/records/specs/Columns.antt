@@ -5,13 +5,13 @@ use Rattle.records.specs.declared.node.Node.TheVariants.{Blank}
 use Rattle.records.specs.declared.condition.Atom.TheVariants.{One}
 use Rattle.records.specs.declared.condition.Item.{Item}
 use Rattle.records.specs.declared.condition.Condition.{Condition}
-use Rattle.records.specs.declared.entry.Stretch.{Stretch}
+use Rattle.records.specs.declared.stretch.Stretch.{Stretch}
 use Rattle.records.specs.declared.entry.Param.{Param}
 use Rattle.records.specs.declared.entry.Param.TheVariants.{Number}
 use Rattle.records.specs.declared.entry.Entry.{Entry}
 use Rattle.records.specs.declared.counts.Counts.{Counts}
 use Rattle.records.specs.declared.record.Record.{Record}
-use Rattle.language.specs.declared.sign.Comparison.TheVariants.{Less}
+use Rattle.language.specs.declared.comparison.Comparison.TheVariants.{Less}
 use Rattle.records.specs.Tables.{Tables}
 use Rattle.records.specs.Fours.{four}
 
@@ -19,11 +19,11 @@ use Rattle.records.specs.Fours.{four}
 abbrev pub no_item : Item
 no_item = record { factor = pos 0; atom = One }
 
-abbrev pub no_condition : Condition
-no_condition = record { place = 0; comparison = Less; from = 0; middle = 0; to = 0 }
-
 abbrev pub no_stretch : Stretch
 no_stretch = record { from = 0; to = 0 }
+
+abbrev pub no_condition : Condition
+no_condition = record { place = 0; comparison = Less; left = no_stretch; right = no_stretch }
 
 abbrev pub no_entry : Entry
 no_entry = record { place = 0; params = no_stretch; needs = no_stretch; gives = no_stretch; body = 0 }

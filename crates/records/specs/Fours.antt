@@ -1,6 +1,6 @@
 -- Four slots.
-use Rattle.std.specs.Prelude.{List, [], ◌∷◌}
+use Rattle.std.specs.Prelude.{List, replicate}
 
 -- the same in each of four slots
 abbrev pub four : {A : Type 0} → A → List A
-four x = x ∷ x ∷ x ∷ x ∷ []
+four x = replicate 4 x

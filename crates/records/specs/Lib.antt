@@ -11,3 +11,4 @@ pub mod Kept
 pub mod Laying
 pub mod Owing
 pub mod Added
+pub mod Leaving

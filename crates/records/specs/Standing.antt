@@ -1,17 +1,20 @@
 -- Trees that stand in tables. What stands still stands when tables grow.
 use Rattle.std.specs.Prelude.{◌≡◌, ℕ, suc, ◌<◌, ◌≤◌, List, ◌++◌, length, Some}
 use Rattle.std.specs.List.{AllByRecursion, slice_get}
-use Rattle.language.specs.declared.sign.Operator.{Operator}
-use Rattle.language.specs.declared.sign.Comparison.{Comparison}
+use Rattle.language.specs.declared.operator.Operator.{Operator}
+use Rattle.language.specs.declared.comparison.Comparison.{Comparison}
 use Rattle.language.specs.Tree as Tree
 use Rattle.language.specs.Tree.{Expr, Args, Site}
 use Rattle.records.specs.declared.node.Node.TheVariants.{Num, Name, Calc, Read, Call, Bind, Test, Put, Claim, End, Value, Lent}
 use Rattle.records.specs.declared.condition.Condition.{Condition}
+use Rattle.records.specs.declared.stretch.Stretch.{Stretch}
 use Rattle.records.specs.Tables.{Tables, stretch, conditions_in}
 
--- the sides of a condition end among so many items
-abbrev pub SidesIn : ℕ → Condition → Type 0
-SidesIn n c = (c.middle ≤ n) × (c.to ≤ n)
+-- the right side of a condition begins where the left side ends, and both end among so many items
+pub record SidesIn (n : ℕ) (c : Condition) : Type 0 where
+  pub joined : c.left.to ≡ c.right.from
+  pub left : c.left.to ≤ n
+  pub right : c.right.to ≤ n
 
 -- these conditions lie in their table from one position up to another
 pub record Listed (t : Tables) (from to : ℕ) (cs : List Tree.Condition) : Type 0 where
@@ -30,7 +33,7 @@ mutual
     bind : {lo at p a b : ℕ} {x y : Expr} → slice_get t.nodes at ≡ Some (Bind p a b) → a < at → b < at → Stands t lo a x → Stands t (suc a) b y → Stands t lo at (Tree.bind p x y)
     test : {lo at p a b d e : ℕ} {c : Comparison} {x y u v : Expr} → slice_get t.nodes at ≡ Some (Test p c a b d e) → a < at → b < at → d < at → e < at → Stands t lo a x → Stands t (suc a) b y → Stands t (suc b) d u → Stands t (suc d) e v → Stands t lo at (Tree.test p c x y u v)
     put : {lo at p a b e : ℕ} {s : Site} {x y u : Expr} → slice_get t.nodes at ≡ Some (Put p s.place s.number s.list a b e) → a < at → b < at → e < at → Stands t lo a x → Stands t (suc a) b y → Stands t (suc b) e u → Stands t lo at (Tree.put p s x y u)
-    claim : {lo at p a from to : ℕ} {x : Expr} {cs : List Tree.Condition} → slice_get t.nodes at ≡ Some (Claim p a from to) → a < at → Stands t lo a x → Listed t from to cs → Stands t lo at (Tree.claim p x cs)
+    claim : {lo at p a : ℕ} {s : Stretch} {x : Expr} {cs : List Tree.Condition} → slice_get t.nodes at ≡ Some (Claim p a s) → a < at → Stands t lo a x → Listed t s.from s.to cs → Stands t lo at (Tree.claim p x cs)
 
   -- these arguments do, the rest of them before the first, since they are put in from the last
   pub data ArgsStand (t : Tables) : ℕ → ℕ → Args → Type 0 where

@@ -32,9 +32,9 @@ side_in items from to = map item_of (stretch items from to)
 abbrev pub condition_in : List Item → Condition → Tree.Condition
 condition_in items c = record {
   place = c.place;
-  left = side_in items c.from c.middle;
+  left = side_in items c.left.from c.left.to;
   comparison = c.comparison;
-  right = side_in items c.middle c.to;
+  right = side_in items c.right.from c.right.to;
 }
 
 unfoldable pub conditions_in : List Item → List Condition → ℕ → ℕ → List Tree.Condition

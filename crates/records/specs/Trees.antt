@@ -34,7 +34,7 @@ grown_expr cs part (Call p f xs) = call p f (part xs).args
 grown_expr cs part (Bind p a b) = bind p (part a).expr (part b).expr
 grown_expr cs part (Test p c a b d e) = test p c (part a).expr (part b).expr (part d).expr (part e).expr
 grown_expr cs part (Put p s n l a b e) = put p (record { place = s; number = n; list = l }) (part a).expr (part b).expr (part e).expr
-grown_expr cs part (Claim p a from to) = claim p (part a).expr (cs from to)
+grown_expr cs part (Claim p a s) = claim p (part a).expr (cs s.from s.to)
 grown_expr cs part End = no_expr
 grown_expr cs part (Value a xs) = no_expr
 grown_expr cs part (Lent l xs) = no_expr
@@ -49,7 +49,7 @@ grown_args part (Call p f xs) = end
 grown_args part (Bind p a b) = end
 grown_args part (Test p c a b d e) = end
 grown_args part (Put p s n l a b e) = end
-grown_args part (Claim p a from to) = end
+grown_args part (Claim p a s) = end
 grown_args part End = end
 grown_args part (Value a xs) = value (part a).expr (part xs).args
 grown_args part (Lent l xs) = lent l (part xs).args

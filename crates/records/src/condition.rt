@@ -1,3 +1,4 @@
+use crate::stretch::Stretch;
 use language::Comparison;
 
 // What an item of a side takes so many times: one, a name by its slot, or the result.
@@ -14,12 +15,11 @@ pub struct Item {
     pub atom: Atom,
 }
 
-// A condition. Its left side is the entries `from` to `middle` of the table of items, its right side `middle` to `to`. That table lies in lent records, so the sides are no slices.
+// A condition: its sides are stretches of the table of items.
 #[derive(Clone, Copy, Debug, PartialEq, Eq)]
 pub struct Condition {
     pub place: usize,
     pub comparison: Comparison,
-    pub from: usize,
-    pub middle: usize,
-    pub to: usize,
+    pub left: Stretch,
+    pub right: Stretch,
 }

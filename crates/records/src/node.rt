@@ -1,3 +1,4 @@
+use crate::stretch::Stretch;
 use language::{Comparison, Operator};
 
 // A node of a sheet's tree, its names resolved. Parts are given by their positions, which are lower than the node's own: nodes lie in records that the caller lends, so no part is a Box.
@@ -55,12 +56,11 @@ pub enum Node {
         value: usize,
         rest: usize,
     },
-    // An expression and the conditions that it is to meet, which are entries `from` to `to` of their table.
+    // An expression and the conditions that it is to meet.
     Claim {
         place: usize,
         claimed: usize,
-        from: usize,
-        to: usize,
+        conditions: Stretch,
     },
     // Arguments: none, or an expression's value or a list that is lent, before the rest.
     End,

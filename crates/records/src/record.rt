@@ -2,9 +2,10 @@ ghost use Rattle.std.specs.Prelude.{◌≡◌, length, replicate};
 ghost use Rattle.records.specs.Columns.{zero_record};
 
 use crate::condition::{Atom, Condition, Item};
-use crate::entry::{Entry, Param, Stretch};
+use crate::entry::{Entry, Param};
 use crate::node::Node;
 use crate::owed::Owed;
+use crate::stretch::Stretch;
 use language::Comparison;
 use rows::Row;
 
@@ -31,9 +32,8 @@ impl Record {
             conditions: [Condition {
                 place: 0,
                 comparison: Comparison::Less,
-                from: 0,
-                middle: 0,
-                to: 0,
+                left: none,
+                right: none,
             }; 4],
             items: [Item {
                 factor: 0,

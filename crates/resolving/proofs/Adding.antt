@@ -3,13 +3,9 @@ use Rattle.std.proofs.Common.{◌≡◌, ℕ, ◌+◌, ◌<◌, Bool, cond, ltb,
 use Rattle.std.proofs.lemmas.List.{append-nil, append_assoc, map_push, length-map, length-append}
 use Rattle.resolving.specs.Making.{Added}
 
--- a table with room takes one more
-pub taken : {X : Type 0} (x y z : X) (r : Bool) (n room : ℕ) → r ≡ ltb n room → n < room → z ≡ cond r x y → z ≡ x
-taken x y z r n room e h f = f ∙ ap (λ b. cond b x y) (e ∙ lt-ltb n room h)
-
 -- a pile with room takes one more
 pub pushed : {X : Type 0} (xs ys : List X) (x : X) (r : Bool) (room : ℕ) → r ≡ ltb (length xs) room → length xs < room → ys ≡ cond r (xs ++ x ∷ []) xs → ys ≡ xs ++ x ∷ []
-pushed xs ys x r room e h f = taken (xs ++ x ∷ []) xs ys r (length xs) room e h f
+pushed xs ys x r room e h f = f ∙ ap (λ b. cond b (xs ++ x ∷ []) xs) (e ∙ lt-ltb (length xs) room h)
 
 -- some entries were added, and these are left to add
 pub record Adding {X Y : Type 0} (F : X → Y) (ys : List Y) (xs xs' : List X) (left : List Y) : Type 0 where

@@ -1,11 +1,10 @@
 -- What steps leave alone that put entries into one or two tables.
-use Rattle.std.proofs.Common.{◌≡◌, ◌<◌, Bool, cond, length, ltb, sym, refl, ap, ◌∙◌}
+use Rattle.std.proofs.Common.{◌≡◌, sym, refl, ap, ◌∙◌}
 use Rattle.records.specs.declared.condition.Condition.{Condition}
 use Rattle.records.specs.declared.condition.Item.{Item}
 use Rattle.records.specs.declared.entry.Param.{Param}
 use Rattle.records.specs.Columns.{Column, Columns, pushed}
 use Rattle.resolving.specs.Making.{ItemsAlone, ConditionsAlone, ParamsAlone}
-use Rattle.resolving.proofs.Adding.{taken}
 
 abbrev pub with_item : Columns → Item → Columns
 with_item p x = record p { items = pushed p.items x }
@@ -17,15 +16,6 @@ abbrev pub with_param : Columns → Param → Columns
 with_param p x = record p { params = pushed p.params x }
 
 module _ (p q : Columns) where
-  pub item_taken : (x : Item) (r : Bool) → r ≡ ltb (length p.items.entries) p.items.room → length p.items.entries < p.items.room → q ≡ cond r (with_item p x) p → q ≡ with_item p x
-  item_taken x r e h f = taken (with_item p x) p q r (length p.items.entries) p.items.room e h f
-
-  pub condition_taken : (x : Condition) (r : Bool) → r ≡ ltb (length p.conditions.entries) p.conditions.room → length p.conditions.entries < p.conditions.room → q ≡ cond r (with_condition p x) p → q ≡ with_condition p x
-  condition_taken x r e h f = taken (with_condition p x) p q r (length p.conditions.entries) p.conditions.room e h f
-
-  pub param_taken : (x : Param) (r : Bool) → r ≡ ltb (length p.params.entries) p.params.room → length p.params.entries < p.params.room → q ≡ cond r (with_param p x) p → q ≡ with_param p x
-  param_taken x r e h f = taken (with_param p x) p q r (length p.params.entries) p.params.room e h f
-
   pub item_alone : (x : Item) → q ≡ with_item p x → ItemsAlone p q
   item_alone x e = record { room = ap (λ (c : Columns). c.items.room) e; rest = e ∙ ap (λ (i : Column Item). record p { items = i }) (sym (ap (λ (c : Columns). c.items) e)) }
 

@@ -1,19 +1,15 @@
 -- Conditions in their tables: one from its two sides, and one after another.
-use Rattle.std.proofs.Common.{◌≡◌, ℕ, suc, ◌+◌, ◌-◌, ◌<◌, ◌≤◌, min, Bool, true, false, cond, List, [], ◌∷◌, ◌++◌, map, length, take, None, sym, refl, ap, ◌∙◌, subst, ap₂, inl, inr, arith}
-use Rattle.std.proofs.lemmas.List.{append-nil, append_assoc, length-append, drop_at, take_all, get_or_past}
-use Rattle.std.proofs.lemmas.Bool.{cases_lt}
+use Rattle.std.proofs.Common.{◌≡◌, ℕ, suc, ◌-◌, ◌<◌, Bool, true, false, cond, List, [], ◌∷◌, ◌++◌, map, length, take, None, sym, refl, ap, ◌∙◌, subst, ap₂, arith}
+use Rattle.std.proofs.lemmas.List.{append-nil, append_assoc, length-append, drop_at, take_all, map-append}
 use Rattle.std.proofs.ByRecursion.{All-append}
 use Rattle.letters.specs.declared.token.Token.{Token}
-use Rattle.letters.specs.declared.kind.Kind.TheVariants.{Numeral, Times, Comma, End}
+use Rattle.letters.specs.declared.kind.Kind.TheVariants.{Numeral, Times}
 use Rattle.letters.specs.Kinds.{same_kind}
-use Rattle.letters.specs.Tokens.{token_of}
-use Rattle.grammar.specs.Parsers.{Look, look_in, is_a}
+use Rattle.grammar.specs.Parsers.{Look, is_a}
 use Rattle.grammar.specs.Raw as Raw
-use Rattle.grammar.specs.Sheets.{plain_item, times_item, condition_of}
-use Rattle.grammar.specs.Stretches.{Past, past, item_at, side_at, condition_at, conditions_at}
+use Rattle.grammar.specs.Sheets.{plain_item, times_item}
+use Rattle.grammar.specs.Stretches.{Past, past, item_at}
 use Rattle.naming.specs.Scopes.{Scope}
-use Rattle.naming.proofs.Joins.{rest-none}
-use Rattle.naming.proofs.Turns.{side-list, conditions-list, past-side}
 use Rattle.language.specs.Tree as Tree
 use Rattle.records.specs.declared.condition.Condition.{Condition}
 use Rattle.records.specs.declared.condition.Item.{Item}
@@ -38,15 +34,6 @@ side-kept : (ys : Tree.Side) (xs xs' more : List Item) → Added item_of ys xs x
 unfolding side_in
 side-kept ys xs xs' more a = ap (map item_of) (stays xs' more (length xs) (length xs') (omega arith)) ∙ side-added ys xs xs' a
 
--- a condition's place is that of its first token
-item-place : (l : Look) (m : Bool) (i : ℕ) → item_place (item_at l m i).value ≡ (l i).place
-item-place l m i = go (is_a Numeral (l i)) (is_a Times (l (suc i)))
-  where
-    go : (b t : Bool) → item_place (cond b (cond t (past (times_item m (l i) (l (suc (suc i)))) (suc (suc (suc i)))) (past (plain_item m (l i)) (suc i))) (past (plain_item m (l i)) (suc i))).value ≡ (l i).place
-    go true true = refl
-    go true false = refl
-    go false t = refl
-
 -- a factor, like any numeral, has six digits at most
 pub small_item : (l : Look) → ((q : ℕ) → Small (l q)) → (m : Bool) (i : ℕ) → Resolving.factor_of (item_at l m i).value.factor (item_at l m i).value.atom < 1000000
 small_item l fit m i = go (is_a Numeral (l i)) (is_a Times (l (suc i)))
@@ -63,20 +50,17 @@ small_item l fit m i = go (is_a Numeral (l i)) (is_a Times (l (suc i)))
     go true false = plain (l i) (fit i)
     go false t = plain (l i) (fit i)
 
-pub side-place : (l : Look) (n i : ℕ) → side_place (side_at n l i).value ≡ (l i).place
-side-place l n i = ap side_place (side-list l n i) ∙ item-place l false i
-
 module _ (text : List ℕ) (Γ : Scope) where
   pub formed : (r : Raw.Condition) (c : Condition) (xs xs' xs'' : List Item) → Added item_of (map (Resolving.item_of text Γ) r.left) xs xs' → Added item_of (map (Resolving.item_of text Γ) r.right) xs' xs''
-      → c.place ≡ side_place r.left → c.comparison ≡ Resolving.comparison_of r.comparison.kind → c.from ≡ length xs → c.middle ≡ length xs' → c.to ≡ length xs'' → Formed (Resolving.condition_of text Γ r) c xs xs''
-  formed r c xs xs' xs'' a b p s f m t = record {
+      → c.place ≡ side_place r.left → c.comparison ≡ Resolving.comparison_of r.comparison.kind → c.left.from ≡ length xs → c.left.to ≡ length xs' → c.right.from ≡ length xs' → c.right.to ≡ length xs'' → Formed (Resolving.condition_of text Γ r) c xs xs''
+  formed r c xs xs' xs'' a b p s f m n t = record {
     items = more-more xs xs' xs'' (a.more, a.grown) (b.more, b.grown);
-    sides = (omega (arith, ap length b.grown, length-append xs' b.more), omega arith);
+    sides = record { joined = m ∙ sym n; left = omega (arith, ap length b.grown, length-append xs' b.more); right = omega arith };
     stand =
-        ap₂ (λ x y. record { place = x; left = side_in xs'' c.from c.middle; comparison = y; right = side_in xs'' c.middle c.to }) p s
+        ap₂ (λ x y. record { place = x; left = side_in xs'' c.left.from c.left.to; comparison = y; right = side_in xs'' c.right.from c.right.to }) p s
         ∙ ap₂ (λ x y. record { place = side_place r.left; left = x; comparison = Resolving.comparison_of r.comparison.kind; right = y })
         (ap₂ (side_in xs'') f m ∙ ap (λ l. side_in l (length xs) (length xs')) b.grown ∙ side-kept _ xs xs' b.more a)
-        (ap₂ (side_in xs'') m t ∙ side-added _ xs' xs'' b);
+        (ap₂ (side_in xs'') n t ∙ side-added _ xs' xs'' b);
   }
 
 pub listing_none : (ds : List Condition) (is : List Item) → Listing [] ds ds is is
@@ -84,10 +68,6 @@ listing_none ds is = record { more = []; grown = sym (append-nil ds); items = ([
 
 pub listing-one : (y : Tree.Condition) (c : Condition) (ds ds' : List Condition) (is is' : List Item) → Formed y c is is' → ds' ≡ ds ++ c ∷ [] → Listing (y ∷ []) ds ds' is is'
 listing-one y c ds ds' is is' f e = record { more = c ∷ []; grown = e; items = f.items; sides = (f.sides, tt); stand = ap (λ x. x ∷ []) f.stand }
-
-map-append : {X Y : Type 0} (f : X → Y) (xs ys : List X) → map f (xs ++ ys) ≡ map f xs ++ map f ys
-map-append f [] ys = refl
-map-append f (x ∷ xs) ys = ap (λ l. f x ∷ l) (map-append f xs ys)
 
 pub listing-then : (ys zs : List Tree.Condition) (ds ds' ds'' : List Condition) (is is' is'' : List Item) → Listing ys ds ds' is is' → Listing zs ds' ds'' is' is'' → Listing (ys ++ zs) ds ds'' is is''
 listing-then ys zs ds ds' ds'' is is' is'' a b =
@@ -117,34 +97,8 @@ module _ (F : Raw.Condition → Tree.Condition) where
     rest = append_assoc u.done (F r ∷ []) (map F rest) ∙ ap (λ xs. u.done ++ map F xs) (sym l) ∙ u.rest;
   }
 
-  pub under_all : (all left zs : List Raw.Condition) (r : Raw.Condition) (c : Condition) (ds ds' ds'' : List Condition) (is is' is'' : List Item) → Formed (F r) c is is' → ds' ≡ ds ++ c ∷ [] → Under F all left ds' ds'' is' is'' → left ≡ [] → zs ≡ r ∷ all → Listing (map F zs) ds ds'' is is''
-  under_all all left zs r c ds ds' ds'' is is' is'' f e u l z =
-      subst (λ ys. Listing ys ds ds'' is is'')
-      (ap (λ ys. F r ∷ ys) (sym (append-nil u.done) ∙ ap (λ xs. u.done ++ map F xs) (sym l) ∙ u.rest) ∙ ap (map F) (sym z))
-      (listing-then (F r ∷ []) u.done ds ds' ds'' is is' is'' (listing-one (F r) c ds ds' is is' f e) u.listing)
-
--- past the last token conditions read the same anywhere
-pub clamped : (ts : List Token) (e n i : ℕ) → (conditions_at n (look_in ts e) (min i (length ts))).value ≡ (conditions_at n (look_in ts e) i).value
-unfolding same_kind
-clamped ts e n i = elim (cases_lt i (length ts)) [
-  | inl h ↦ ap (λ j. (conditions_at n (look_in ts e) j).value) (let m : min i (length ts) ≡ i = omega arith in m)
-  | inr h ↦ ap (λ j. (conditions_at n (look_in ts e) j).value) (let m : min i (length ts) ≡ length ts = omega arith in m) ∙ beyond (length ts) (omega arith) ∙ sym (beyond i h)
-]
-  where
-    E : Token
-    E = token_of End e 0 0
-
-    beyond : (i : ℕ) → length ts ≤ i → (conditions_at n (look_in ts e) i).value ≡ condition_of (plain_item false E ∷ []) E (plain_item false E ∷ []) ∷ []
-    beyond i h =
-        let l : Look = look_in ts e in
-        let j : ℕ = (side_at n l i).next in
-        let k : ℕ = (side_at n l (suc j)).next in
-        let a : j ≡ i + 1 = (past-side ts e n i h).1 in
-        let b : k ≡ suc j + 1 = (past-side ts e n (suc j) (omega arith)).1 in
-        let d : is_a Comma (l k) ≡ false = ap (is_a Comma) (get_or_past ts k E (omega arith)) in
-        conditions-list l n i ∙ ap (λ cs. (condition_at n l i).value ∷ cs) (rest-none l (is_a Comma) (λ t m. condition_at n l m) n k d)
-        ∙ ap₂ (λ x y. condition_of x (l j) y ∷ []) (past-side ts e n i h).0 (past-side ts e n (suc j) (omega arith)).0
-        ∙ ap (λ t. condition_of (plain_item false E ∷ []) t (plain_item false E ∷ []) ∷ []) (get_or_past ts j E (omega arith))
+  pub under_all : (all left : List Raw.Condition) (ds ds' : List Condition) (is is' : List Item) → Under F all left ds ds' is is' → left ≡ [] → Listing (map F all) ds ds' is is'
+  under_all all left ds ds' is is' u l = subst (λ ys. Listing ys ds ds' is is') (sym (append-nil u.done) ∙ ap (λ xs. u.done ++ map F xs) (sym l) ∙ u.rest) u.listing
 
 -- the same items
 pub under-in : (F : Raw.Condition → Tree.Condition) (ys zs : List Raw.Condition) (ds ds' : List Condition) {is js is' js' : List Item} → Under F ys zs ds ds' is is' → js ≡ is → js' ≡ is' → Under F ys zs ds ds' js js'

@@ -6,10 +6,11 @@ use Rattle.grammar.specs.Raw as Raw
 use Rattle.grammar.specs.Weights.{expr_weight, args_weight, conditions_weight}
 use Rattle.naming.specs.Faults.{bare_list}
 use Rattle.naming.specs.Scopes.{Scope, Sheet, slot_in, rule_in, naming}
-use Rattle.language.specs.declared.sign.Operator.{Operator}
-use Rattle.language.specs.declared.sign.Comparison.{Comparison}
+use Rattle.language.specs.declared.operator.Operator.{Operator}
+use Rattle.language.specs.declared.comparison.Comparison.{Comparison}
 use Rattle.language.specs.Tree as Tree
 use Rattle.records.specs.declared.node.Node.TheVariants.{Num, Name, Calc, Read, Call, Bind, Test, Put, Claim, End, Value, Lent}
+use Rattle.records.specs.declared.stretch.Stretch.{Stretch}
 use Rattle.records.specs.Standing.{Listed, num, name, calc, read, call, bind, test, put, claim, end, value, lent}
 use Rattle.records.specs.Counting.{up_to, exprs_up_to, args_up_to, claims_up_to, claims_in, conditions_up_to}
 use Rattle.naming.specs.Resolving.{slot_of, operator_of, comparison_of, conditions_of}
@@ -72,11 +73,11 @@ module _ (S : Sheet) (Γ : Scope) where
         stands = put (n ∙ ap (λ x. Some (Put x site 0 slot i j k)) pl ∙ ap₂ (λ x y. Some (Put t.place x 0 y i j k)) st sl) m.0.0.below m.0.1.below m.1.below (expr-on _ i _ _ w g m.0.0).stands (expr-after i _ j _ _ w g x.holds.below m.0.1) (expr-after j _ k _ _ w g y.holds.below m.1);
       })
 
-  pub claim-made : (t : Token) (a : Raw.Expr) (cs : List Raw.Condition) (place i from to : ℕ) (p q u : Columns) (z : Columns) → ExprMade S Γ a i p q → Made (conditions_weight cs) (λ byte. 0) (λ byte. conditions_up_to byte (conditions_of S.text Γ cs)) (λ t. Listed t from to (conditions_of S.text Γ cs)) q u → place ≡ t.place → z ≡ added u (Claim place i from to) → ExprMade S Γ (Raw.claim t a cs) (length u.nodes.entries) p z
+  pub claim-made : (t : Token) (a : Raw.Expr) (cs : List Raw.Condition) (place i : ℕ) (s : Stretch) (p q u : Columns) (z : Columns) → ExprMade S Γ a i p q → Made (conditions_weight cs) (λ byte. 0) (λ byte. conditions_up_to byte (conditions_of S.text Γ cs)) (λ t. Listed t s.from s.to (conditions_of S.text Γ cs)) q u → place ≡ t.place → z ≡ added u (Claim place i s) → ExprMade S Γ (Raw.claim t a cs) (length u.nodes.entries) p z
   unfolding expr_of expr_weight exprs_up_to claims_up_to
-  claim-made t a cs place i from to p q u z x l e h =
-      made-node z (Claim place i from to) (made_then x (expr-on _ i _) l) h (omega arith) (λ byte. let z = ap (up_to byte) e in omega arith) (λ byte. refl)
-      (λ m v g b k. record { below = b; stands = claim (k ∙ ap (λ x. Some (Claim x i from to)) e) m.0.below (expr-on _ i _ _ v g m.0).stands (listed-grows from to _ _ v g m.1) })
+  claim-made t a cs place i s p q u z x l e h =
+      made-node z (Claim place i s) (made_then x (expr-on _ i _) l) h (omega arith) (λ byte. let z = ap (up_to byte) e in omega arith) (λ byte. refl)
+      (λ m v g b k. record { below = b; stands = claim (k ∙ ap (λ x. Some (Claim x i s)) e) m.0.below (expr-on _ i _ _ v g m.0).stands (listed-grows s.from s.to _ _ v g m.1) })
 
   pub end-made : (p : Columns) (z : Columns) → z ≡ added p End → Made 1 (λ byte. 0) (λ byte. 0) (λ t. ArgsAt t (length p.nodes.entries) (length p.nodes.entries) Tree.end) p z
   end-made p z h = made-node z End (made_none p) h (omega arith) (λ byte. refl) (λ byte. refl) (λ _ u g b k. record { below = b; stands = end k (omega arith) })

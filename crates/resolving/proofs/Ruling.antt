@@ -1,5 +1,5 @@
 -- A rule in the tables, from its parameters, conditions and body.
-use Rattle.std.proofs.Common.{◌≡◌, ℕ, zero, suc, ◌+◌, ◌<◌, ◌≤◌, Bool, cond, ltb, List, [], ◌∷◌, ◌++◌, map, length, sym, refl, ap, ◌∙◌, subst, ap₂, inl, inr, arith}
+use Rattle.std.proofs.Common.{◌≡◌, ℕ, zero, suc, ◌+◌, ◌≤◌, List, [], ◌∷◌, ◌++◌, map, length, sym, refl, ap, ◌∙◌, subst, ap₂, inl, inr, arith}
 use Rattle.std.proofs.lemmas.Bool.{cases_lt}
 use Rattle.std.proofs.lemmas.List.{length-map, length_push, map_push, append-nil}
 use Rattle.grammar.specs.Raw as Raw
@@ -35,7 +35,7 @@ use Rattle.records.proofs.Rules.{rules-more}
 use Rattle.records.proofs.Standing.{wider}
 use Rattle.counting.specs.Counts.{sheet_exprs, sheet_conditions}
 use Rattle.resolving.specs.Ruling.{tree_params, RuleMade, RulesMade, Empty, SameRooms}
-use Rattle.resolving.proofs.Adding.{size, taken}
+use Rattle.resolving.proofs.Adding.{size}
 use Rattle.resolving.proofs.Growing.{nodes-longer, made_as, made_then, made-listed, listed-grows}
 use Rattle.resolving.proofs.Listings.{stretched}
 use Rattle.resolving.proofs.Parts.{listed-few}
@@ -45,10 +45,12 @@ pub declared : (w : Written) (h : Params) (at : ℕ) (ns ls : List ℕ) → h.sh
 declared w h at ns ls v e s = ap (λ (x : Written). scope_of x ns ls) (sym v) ∙ s ∙ ap (head_scope empty) e
 
 -- conditions that were listed, in a scope that is the same
-pub conditions-made : (text : List ℕ) (Γ Δ : Scope) (cs : List Raw.Condition) (from to : ℕ) (p q : Columns) → Listing (conditions_of text Γ cs) p.conditions.entries q.conditions.entries p.items.entries q.items.entries → Γ ≡ Δ → from ≡ length p.conditions.entries → to ≡ length q.conditions.entries → length q.items.entries ≤ length p.items.entries + conditions_weight cs → ConditionsAlone p q
+pub conditions-made : (text : List ℕ) (Γ Δ : Scope) (cs ds : List Raw.Condition) (from to : ℕ) (p q : Columns) → ds ≡ cs → Listing (conditions_of text Γ ds) p.conditions.entries q.conditions.entries p.items.entries q.items.entries → Γ ≡ Δ → from ≡ length p.conditions.entries → to ≡ length q.conditions.entries → length q.items.entries ≤ length p.items.entries + conditions_weight ds → ConditionsAlone p q
     → Made (conditions_weight cs) (λ byte. 0) (λ byte. conditions_up_to byte (conditions_of text Δ cs)) (λ t. Listed t from to (conditions_of text Δ cs)) p q
-conditions-made text Γ Δ cs from to p q l e f t m a =
-    made-listed (conditions_of text Δ cs) (conditions_weight cs) from to p q (subst (λ (Θ : Scope). Listing (conditions_of text Θ cs) p.conditions.entries q.conditions.entries p.items.entries q.items.entries) e l) f t (listed-few text Δ cs) m a
+conditions-made text Γ Δ cs ds from to p q k l e f t m a =
+    made-listed (conditions_of text Δ cs) (conditions_weight cs) from to p q
+    (subst (λ (Θ : Scope). Listing (conditions_of text Θ cs) p.conditions.entries q.conditions.entries p.items.entries q.items.entries) e (subst (λ xs. Listing (conditions_of text Γ xs) p.conditions.entries q.conditions.entries p.items.entries q.items.entries) k l))
+    f t (listed-few text Δ cs) (omega (arith, m, ap conditions_weight k)) a
 
 -- a rule's parameters, then its needs, its gives and its body
 pub rule-made : (S : Sheet) (r : Raw.Rule) (e : Entry) (o p q u v : Columns)
@@ -88,9 +90,6 @@ with_entry p e = record p { entries = pushed p.entries e }
 -- parameters take no room from the other tables
 pub roomy-params : {w : ℕ} {o p : Columns} → Roomy w o → ParamsAlone o p → Roomy w p
 roomy-params {w = w} {o = o} {p = p} r a = subst (Roomy w) (sym a.rest) (record { nodes = r.nodes; conditions = r.conditions; items = r.items })
-
-pub entry_taken : (p q : Columns) (e : Entry) (b : Bool) → b ≡ ltb (length p.entries.entries) p.entries.room → length p.entries.entries < p.entries.room → q ≡ cond b (with_entry p e) p → q ≡ with_entry p e
-entry_taken p q e b h l f = taken (with_entry p e) p q b (length p.entries.entries) p.entries.room h l f
 
 pub rooms_none : {p : Columns} → SameRooms p p
 rooms_none = record { nodes = refl; conditions = refl; items = refl; params = refl; entries = refl; lender = refl }

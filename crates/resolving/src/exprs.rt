@@ -17,7 +17,7 @@ use pile::Pile;
 use records::{Laid, Node as Resolved};
 
 impl Context<'_, '_, '_> {
-    // The expression at a position below `top` goes into the tables; its position there is given. The names in force are the same again afterwards. Where no expression stands, it is the number 0 at 0, as in the definition.
+    // The expression at a position below `top` goes into the tables; its position there is given. The names in force are the same again afterwards, with room for a name for each position below `top`, which changes with each part. Where no expression stands, which no sheet that was parsed has, it is the number 0 at 0.
     #[cycle(argument_arguments_expr)]
     pub(crate) fn expr(
         &self,
@@ -94,7 +94,7 @@ impl Context<'_, '_, '_> {
             } => {
                 let bound = self.expr(names, at, bound, tables);
                 let mark = names.mark();
-                let _ = names.push(name);
+                names.push(name).unwrap();
                 let body = self.expr(names, at, body, tables);
                 names.fall_back(mark);
                 let place = place(sheet, keyword);
@@ -162,15 +162,14 @@ impl Context<'_, '_, '_> {
                     sheet,
                     names: names.as_slice(),
                 };
-                let listed = scoped.conditions_at(conditions, tables);
+                let conditions = scoped.conditions(sheet.conditions(conditions), tables);
                 let place = place(sheet, keyword);
                 add(
                     tables,
                     Resolved::Claim {
                         place,
                         claimed,
-                        from: listed.from,
-                        to: listed.to,
+                        conditions,
                     },
                 )
             }

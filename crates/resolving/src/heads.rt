@@ -30,7 +30,7 @@ pub(crate) fn params_at(sheet: Written<'_>, at: usize, tables: &mut Laid<'_>) ->
 {
     let from = tables.count::<Param>();
     for param in sheet.params(at) {
-        let _ = tables.push(sort_of(sheet, param));
+        tables.push(sort_of(sheet, param)).unwrap();
     }
     Stretch {
         from,

@@ -6,7 +6,7 @@ ghost use Rattle.naming.specs.Resolving.{slot_of};
 use letters::Token;
 use naming::Written;
 
-// Which of the tokens with these numbers is the first that is written as this one; 0 where there is none, as in the definition.
+// Which of the tokens with these numbers is the first that is written as this one; 0 where there is none, which a sheet without faults of names never has, so that an Option would only be taken apart.
 pub(crate) fn slot(sheet: Written<'_>, numbers: &[usize], token: Token) -> usize
     ensures { result ≡ slot_of (slot_in sheet.entry.text.now (tokens_of sheet.entry numbers.now) token) }
 {

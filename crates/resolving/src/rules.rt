@@ -12,7 +12,7 @@ ghost use Rattle.resolving.specs.Ruling.{rule_by, RuleMade, RulesMade, Empty, Am
 use crate::context::{Context, Scoped};
 use crate::heads::params_at;
 use crate::nodes::place;
-use letters::Kind;
+use letters::{Kind, MOST_BYTES};
 use naming::{LIST_ROOM, NAME_ROOM, Ruled, Scope, Written};
 use pile::Pile;
 use records::{Entry, Laid};
@@ -26,14 +26,15 @@ impl Context<'_, '_, '_> {
         ensures { RuleMade (sheet_of self.now.sheet) (rule_by self.now.sheet top ruled) result (columns_of tables.old) (columns_of tables.new) }
     {
         let sheet = self.sheet;
+        // A name that is declared twice was told before, so the fault is no news.
         let _ = scope.enter(sheet.params(ruled.params));
         let params = params_at(sheet, ruled.params, tables);
         let scoped = Scoped {
             sheet,
             names: scope.names.as_slice(),
         };
-        let needs = scoped.optional_at(Kind::Needs, ruled.needs, tables);
-        let gives = scoped.optional_at(Kind::Gives, ruled.gives, tables);
+        let needs = scoped.conditions(sheet.optional(Kind::Needs, ruled.needs), tables);
+        let gives = scoped.conditions(sheet.optional(Kind::Gives, ruled.gives), tables);
         let context = Context {
             sheet,
             rules: self.rules,
@@ -57,10 +58,11 @@ impl Context<'_, '_, '_> {
         ensures rooms { SameRooms (columns_of tables.old) (columns_of tables.new) }
     {
         let sheet = self.sheet;
+        // By positions: a rule's parts lie below its own.
         for at in 0..sheet.nodes.len() {
             if let Some(ruled) = sheet.rule(at) {
                 let entry = self.rule(ruled, at, scope, tables);
-                let _ = tables.push(entry);
+                tables.push(entry).unwrap();
             }
         }
     }
@@ -72,9 +74,10 @@ fn rule_names(sheet: Written<'_>, names: &mut Pile<'_, usize>)
     ensures { tokens_of sheet.entry (entries names.new) ≡ map (λ (r : raw.Rule). r.name) (rules_of sheet.entry) }
 {
     names.fall_back(0);
+    // By positions, as `rule` is read at one.
     for at in 0..sheet.nodes.len() {
         if let Some(ruled) = sheet.rule(at) {
-            let _ = names.push(ruled.name);
+            names.push(ruled.name).unwrap();
         }
     }
 }
@@ -87,7 +90,7 @@ pub fn resolve(sheet: Written<'_>, tables: &mut Laid<'_>)
     ensures made { RulesMade (sheet_of sheet.entry) (rules_of sheet.entry) (columns_of tables.new) }
     ensures rooms { SameRooms (columns_of tables.old) (columns_of tables.new) }
 {
-    let mut rule_room = [0; 16384];
+    let mut rule_room = [0; MOST_BYTES];
     let mut name_room = [0; NAME_ROOM];
     let mut list_room = [0; LIST_ROOM];
     let mut rules = Pile::over(&mut rule_room);

@@ -4,7 +4,7 @@ ghost use Rattle.naming.specs.Resolving.{operator_of, comparison_of};
 use language::{Comparison, Operator};
 use letters::{Kind, Token};
 
-// The operator that a sign stands for.
+// The operator that a sign stands for. Kinds and operators are of other crates, so there is no From; the same holds of comparisons.
 #[tactic(auto, unfolding(letters::specs::Kinds::same_kind))]
 pub(crate) fn operator_of(sign: Token) -> Operator
     ensures { result ≡ operator_of sign.kind }

@@ -1,10 +1,10 @@
 -- What the limits of a row give.
-use Rattle.std.proofs.Common.{◌≡◌, ℕ, zero, suc, true, ◌&&◌, List, [], ◌∷◌, get_or, ℤ, pos, negsuc, refl, ap, arith}
-use Rattle.std.specs.List.{list_all}
+use Rattle.std.proofs.Common.{◌≡◌, ℕ, zero, suc, Bool, true, ◌&&◌, List, [], ◌∷◌, get_or, ℤ, pos, negsuc, refl, ap, arith}
 use lib.Signed.{le_z}
 use Rattle.std.proofs.lemmas.Int.{ints}
 use Rattle.std.proofs.lemmas.Bool.{and_parts}
 use Rattle.ints.specs.Sums.{Near}
+use Rattle.ints.specs.Tests.{within, all_within}
 use Rattle.rows.specs.declared.row.Row.{Row}
 use Rattle.rows.specs.Limits.{small, all_small}
 use Rattle.rows.specs.Meaning.{coef}
@@ -24,7 +24,8 @@ coef-near r j = small_at r.coefs j (and_parts (small r.bound) (all_small r.coefs
 pub bound-near : (r : Row) → Near 4000000 r.bound
 bound-near r = small_is r.bound (and_parts (small r.bound) (all_small r.coefs) r.ok).0
 
-pub all_small_is : (zs : List ℤ) → all_small zs ≡ list_all small zs
-unfolding all_small
-all_small_is [] = refl
-all_small_is (z ∷ zs) = ap (λ b. small z && b) (all_small_is zs)
+-- the limit of rows as a limit that is given
+pub within_small : (zs : List ℤ) → all_within (pos 4000000) zs ≡ all_small zs
+unfolding all_within all_small
+within_small [] = refl
+within_small (z ∷ zs) = ap (λ (b : Bool). within (pos 4000000) z && b) (within_small zs)

@@ -4,5 +4,5 @@
 pub mod question;
 pub mod row;
 
-pub use question::{MOST_FACTS, Question};
+pub use question::{MOST_FACTS, MOST_TIMES, Question};
 pub use row::{Kind, QUANTITIES, ROW_LIMIT, Row};

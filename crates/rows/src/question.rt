@@ -6,6 +6,9 @@ use crate::row::{Kind, Row};
 // A question with more facts is ill-shaped.
 pub const MOST_FACTS: usize = 24;
 
+// No multiplier of a row is larger, proposed or verified.
+pub const MOST_TIMES: u32 = 1_000_000;
+
 // Does every assignment in some range that meets the facts meet the goal?
 #[derive(Clone, Copy, Debug, PartialEq, Eq)]
 pub struct Question<'a> {

@@ -19,7 +19,7 @@ pub enum Kind {
 // A statement about the quantities: the sum of coefficient times quantity, set against the bound.
 #[derive(Clone, Copy, Debug, PartialEq, Eq)]
 pub struct Row {
-    coefs: [i32; 16],
+    coefs: [i32; QUANTITIES],
     bound: i32,
     kind: Kind,
     ghost ok: { fits coefs bound ≡ true },

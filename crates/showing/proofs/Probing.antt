@@ -1,7 +1,7 @@
 -- A token is tried after others: where the fault is found.
-use Rattle.std.proofs.Common.{◌≡◌, ℕ, ◌+◌, ◌-◌, ◌<◌, ◌≤◌, Bool, true, false, not, eqb, List, [], ◌∷◌, ◌++◌, length, get_or, take, set, Ok, Err, Result, sym, refl, ap, ◌∙◌, subst, inl, inr, arith, rules}
+use Rattle.std.proofs.Common.{◌≡◌, ℕ, ◌+◌, ◌<◌, Bool, true, false, not, eqb, List, [], ◌∷◌, length, get_or, set, Ok, Err, Result, sym, refl, ap, ◌∙◌, subst, inl, inr, arith, rules}
 use Rattle.std.proofs.ByRecursion.{All-get_or}
-use Rattle.std.proofs.lemmas.List.{get_or_append_left, get_or_past, get_or_push, get_or-set_same, get_or-set_other, length_push, length-take-le, take_at}
+use Rattle.std.proofs.lemmas.List.{get_or_append_left, get_or_past, get_or_push, get_or-set_same, get_or-set_other, length_push}
 use Rattle.std.proofs.lemmas.Bool.{cases_eq, cases_order, eqb-true, eqb-false, not-true}
 use Rattle.letters.specs.declared.kind.Kind.{Kind}
 use Rattle.letters.specs.declared.kind.Kind.TheVariants.{Name, End}
@@ -57,21 +57,20 @@ module _ (ts : List Token) (w : ℕ) (k : Kind) (apart : Apart ts w) where
       }
       go false e = stops p.said.1.faulty (λ q. eqb-false f w e (p.said.1.place ∙ ap (λ j. (probe j).place) q ∙ there)) p.said.1.came
 
-  pub tells_so : (r : Result ℕ Unread) (room : ℕ) (ns : List Node) (us : List Token) (e n v : ℕ) (b : Bool) → us ≡ probed ts w k → e ≡ w + 1 → length ts ≡ n → v ≡ w → b ≡ passed r v
-      → Parsed r us e room ns → Lawful r us e ns → n < room → Tells b probe n
-  tells_so r room ns us e n v b q p z o s h g l =
-      let h' = subst (λ (us : List Token). Parsed r us (w + 1) room ns) q (subst (λ e. Parsed r us e room ns) p h) in
-      let g' = subst (λ (us : List Token). Lawful r us (w + 1) ns) q (subst (λ e. Lawful r us e ns) p g) in
-      subst (Tells b probe) z (subst (λ b. Tells b probe (length ts)) (sym (s ∙ ap (passed r) o)) (tells r room ns h' g' (subst (λ m. m < room) (sym z) l)))
+  pub tells_so : (r : Result ℕ Unread) (room : ℕ) (ns : List Node) (us : List Token) (b : Bool) → us ≡ probed ts w k → b ≡ passed r w
+      → Parsed r us (w + 1) room ns → Lawful r us (w + 1) ns → length ts < room → Tells b probe (length ts)
+  tells_so r room ns us b q s h g l =
+      let h' = subst (λ (us : List Token). Parsed r us (w + 1) room ns) q h in
+      let g' = subst (λ (us : List Token). Lawful r us (w + 1) ns) q g in
+      subst (λ b. Tells b probe (length ts)) (sym s) (tells r room ns h' g' l)
 
 -- what is told of the same tokens before the same place
-pub kept_tells : {p q : Probe} (b : Bool) (k : Kind) → Kept p q → Tells b (look_in (probed (front q) q.place k) (q.place + 1)) q.at → Tells b (look_in (probed (front p) p.place k) (p.place + 1)) p.at
+pub kept_tells : {p q : Probe} (b : Bool) (k : Kind) → Kept p q → Tells b (look_in (probed (front q) q.place k) (q.place + 1)) (length (front q)) → Tells b (look_in (probed (front p) p.place k) (p.place + 1)) (length (front p))
 kept_tells {p} {q} b k s h =
-    subst (Tells b (look_in (probed (front p) p.place k) (p.place + 1))) s.at
-    (subst (λ w. Tells b (look_in (probed (front p) w k) (w + 1)) q.at) s.place (subst (λ (ts : List Token). Tells b (look_in (probed ts q.place k) (q.place + 1)) q.at) s.front h))
+    subst (λ w. Tells b (look_in (probed (front p) w k) (w + 1)) (length (front p))) s.place (subst (λ (ts : List Token). Tells b (look_in (probed ts q.place k) (q.place + 1)) (length ts)) s.front h)
 
 pub kept_on : {p q r : Probe} → Kept p q → Kept q r → Kept p r
-kept_on s t = record { front = t.front ∙ s.front; at = t.at ∙ s.at; place = t.place ∙ s.place }
+kept_on s t = record { front = t.front ∙ s.front; room = t.room ∙ s.room; place = t.place ∙ s.place }
 
 number_small : (k : Kind) → number k < 28
 number_small k = search rules
@@ -91,9 +90,3 @@ one_more P flags i n b size at old new k h = elim (cases_eq (number k) n) [
         | inr q ↦ subst (λ c. P c k) (sym (get_or-set_other flags n (number k) b false e)) (old k (omega arith))
       ]
 ]
-
--- what stands in front of the scratch after the copy
-pub fronted : (ts rest after : List Token) (i : ℕ) → i ≤ length ts → after ≡ take (i - 0) ts ++ rest → take i after ≡ take i ts
-fronted ts rest after i h e =
-    let n : i - 0 ≡ i = omega arith in
-    ap (take i) (e ∙ ap (λ m. take m ts ++ rest) n) ∙ take_at (take i ts) rest i (length-take-le i ts h)

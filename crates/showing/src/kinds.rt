@@ -4,8 +4,11 @@ ghost use Rattle.showing.specs.Kinds.{among};
 
 use letters::Kind;
 
+// How many kinds there are.
+pub const KIND_COUNT: usize = 28;
+
 // Every kind, in the order of their numbers.
-pub const KINDS: [Kind; 28] = [
+pub const KINDS: [Kind; KIND_COUNT] = [
     Kind::Name,
     Kind::Numeral,
     Kind::End,
@@ -36,10 +39,10 @@ pub const KINDS: [Kind; 28] = [
     Kind::TheResult,
 ];
 
-// Some of the kinds: a flag for each, by its number. There are so many kinds and no more, so this is an array and no set on the heap.
+// Some of the kinds: a flag for each, by its number. There are so many kinds and no more, so the flags are an array, and no set on the heap; as the bits of one number they would be set and read by shifts.
 #[derive(Clone, Copy, Debug, PartialEq, Eq)]
 pub struct Kinds {
-    pub flags: [bool; 28],
+    pub flags: [bool; KIND_COUNT],
 }
 
 impl Kinds {

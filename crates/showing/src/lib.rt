@@ -8,7 +8,7 @@ mod probe;
 mod probes;
 mod words;
 
-pub use kinds::{KINDS, Kinds};
+pub use kinds::{KIND_COUNT, KINDS, Kinds};
 pub use line::{Line, line_at};
 pub use marks::marked;
 pub use probes::expected;

@@ -1,16 +1,17 @@
-ghost use Rattle.std.specs.Prelude.{◌+◌, ◌^◌, ◌<◌, length, take};
+ghost use Rattle.std.specs.Prelude.{◌+◌, ◌^◌, ◌<◌, length};
 ghost use Rattle.std.proofs.Props.{props};
+ghost use Rattle.pile.specs.Entries.{entries, room};
 ghost use Rattle.showing.specs.Probes.{Apart};
 
 use letters::Token;
+use pile::Pile;
 
-// The first tokens of the scratch, behind which a token is tried at a place where none of them is.
+// The tokens behind which one more is tried, at a place where none of them is; there is room for it.
 #[derive(Drop)]
 pub struct Probe<'s> {
-    pub scratch: &'s mut [Token],
-    pub at: usize,
+    pub tokens: Pile<'s, Token>,
     pub place: usize,
-    ghost room: { at < length scratch.now },
+    ghost room: { length (entries tokens) < room tokens },
     ghost ends: { place + 1 < 2 ^ 64 },
-    ghost apart: { Apart (take at scratch.now) place } by { Prim.hlevel props },
+    ghost apart: { Apart (entries tokens) place } by { Prim.hlevel props },
 }

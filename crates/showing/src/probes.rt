@@ -1,12 +1,14 @@
-ghost use Rattle.std.specs.Prelude.{◌≡◌, ◌+◌, ◌<◌, ◌≤◌, ◌++◌, length, take, drop};
+ghost use Rattle.std.specs.Prelude.{◌≡◌, ◌+◌, ◌<◌, ◌≤◌, length};
+ghost use Rattle.pile.specs.Entries.{entries, room};
 ghost use Rattle.grammar.specs.Parsers.{look_in};
 ghost use Rattle.showing.specs.Fronts.{front, Kept};
 ghost use Rattle.showing.specs.Probes.{number_at, probed, passed, Tells, TellsEach, Told};
 
-use crate::kinds::{KINDS, Kinds};
+use crate::kinds::{KIND_COUNT, KINDS, Kinds};
 use crate::probe::Probe;
 use grammar::{Node, Tokens, Unread, parse};
 use letters::{Kind, Token};
+use pile::Pile;
 
 // The number of the first token that begins at a place, or of the end.
 fn number_at(tokens: &[Token], place: usize) -> usize
@@ -27,46 +29,36 @@ fn is_past(read: Result<usize, Unread>, place: usize) -> bool
 }
 
 impl Probe<'_> {
-    // Puts a token of this kind behind the first ones.
-    fn put(&mut self, kind: Kind)
-        ensures tried { take (self.old.at + 1) self.new.scratch.now ≡ probed (front self.old) self.old.place kind }
-        ensures kept { Kept self.old self.new }
-    {
-        self.scratch[self.at] = Token {
-            kind,
-            place: self.place,
-            size: 0,
-            value: 0,
-        };
-    }
-
-    // The first tokens and the one behind them; the text ends after that.
-    fn source(&self) -> Tokens<'_>
-        ensures tokens { result.tokens.now ≡ take (self.now.at + 1) self.now.scratch.now }
-        ensures end { result.end ≡ self.now.place + 1 }
-    {
-        Tokens {
-            tokens: &self.scratch[..self.at + 1],
-            end: self.place + 1,
-        }
-    }
-
-    // The grammar goes past a token of this kind.
+    // The grammar goes past a token of this kind, put behind the others; the text ends after it.
     fn goes_past(&mut self, kind: Kind, nodes: &mut [Node]) -> bool
-        requires { self.old.at < length nodes.old }
-        ensures told { Tells result (look_in (probed (front self.old) self.old.place kind) (self.old.place + 1)) self.old.at }
+        requires { length (front self.old) < length nodes.old }
+        ensures told { Tells result (look_in (probed (front self.old) self.old.place kind) (self.old.place + 1)) (length (front self.old)) }
         ensures kept { Kept self.old self.new }
     {
-        self.put(kind);
-        is_past(parse(self.source(), nodes), self.place)
+        let mark = self.tokens.mark();
+        self.tokens
+            .push(Token {
+                kind,
+                place: self.place,
+                size: 0,
+                value: 0,
+            })
+            .unwrap();
+        let source = Tokens {
+            tokens: self.tokens.as_slice(),
+            end: self.place + 1,
+        };
+        let past = is_past(parse(source, nodes), self.place);
+        self.tokens.fall_back(mark);
+        past
     }
 
     // The kinds of which the grammar goes past a token.
     fn each_kind(&mut self, nodes: &mut [Node]) -> Kinds
-        requires { self.old.at < length nodes.old }
-        ensures { TellsEach result (front self.old) self.old.place self.old.at }
+        requires { length (front self.old) < length nodes.old }
+        ensures { TellsEach result (front self.old) self.old.place (length (front self.old)) }
     {
-        let mut flags = [false; 28];
+        let mut flags = [false; KIND_COUNT];
         for kind in KINDS {
             flags[usize::from(kind.number())] = self.goes_past(kind, nodes);
         }
@@ -74,12 +66,17 @@ impl Probe<'_> {
     }
 }
 
-// Writes tokens to the front of the scratch.
-fn copy_front(tokens: &[Token], scratch: &mut [Token])
+// A pile of these tokens; the scratch has room for them.
+fn piled<'s>(tokens: &[Token], scratch: &'s mut [Token]) -> Pile<'s, Token>
     requires { length tokens.now ≤ length scratch.old }
-    ensures { scratch.new ≡ tokens.now ++ drop (length tokens.now) scratch.old }
+    ensures held { entries result ≡ tokens.now }
+    ensures room { room result ≡ length scratch.old }
 {
-    scratch[0..tokens.len()].copy_from_slice(tokens);
+    let mut pile = Pile::over(scratch);
+    for token in tokens {
+        pile.push(*token).unwrap();
+    }
+    pile
 }
 
 // The kinds of token that the grammar would have taken at a place where it finds a fault: each is tried after the tokens before that place. Nodes and scratch are room to work in, one more of each than there are tokens before the place; where that is wanting, there is no answer.
@@ -95,7 +92,9 @@ pub fn expected(
     if at >= nodes.len() || at >= scratch.len() || place == usize::MAX {
         return None;
     }
-    copy_front(&tokens[0..at], scratch);
-    let mut probe = Probe { scratch, at, place };
+    let mut probe = Probe {
+        tokens: piled(&tokens[..at], scratch),
+        place,
+    };
     Some(probe.each_kind(nodes))
 }

@@ -1,64 +1,48 @@
--- Loops that hold each number to a limit.
-use Rattle.std.proofs.Common.{◌≡◌, ℕ, ◌+◌, ◌<◌, ◌≤◌, Bool, true, false, cond, ◌&&◌, List, [], ◌∷◌, length, get_or, drop, set, ℤ, pos, Some, None, sym, refl, ap, ◌∙◌, arith}
-use Rattle.std.proofs.lemmas.List.{at_drop_more, at_drop_all, ext_get_or}
-use Rattle.std.specs.List.{list_all}
+-- Numbers that are each held to a limit.
+use Rattle.std.proofs.Common.{◌≡◌, ℕ, zero, suc, ◌<◌, Bool, true, false, cond, ◌&&◌, List, [], ◌∷◌, length, get_or, ℤ, pos, Some, None, Ok, Err, Result, sym, refl, ap, ◌∙◌, ap₂, arith}
+use Rattle.std.specs.Prelude.{MatchResult}
+use Rattle.std.specs.Result.{result_ok}
+use Rattle.std.proofs.lemmas.Bool.{and_right}
+use Rattle.ints.specs.Tests.{within, all_within}
 use Rattle.language.specs.Terms.{near, all_near}
-use Rattle.rows.specs.Limits.{all_small}
-use Rattle.terms.specs.Narrow.{within, all_within}
-use Rattle.terms.proofs.Filling.{Filled, filled_none, filled_more}
 
-pub all_near_is : (zs : List ℤ) → all_near zs ≡ list_all near zs
-unfolding all_near
-all_near_is [] = refl
-all_near_is (z ∷ zs) = ap (λ (b : Bool). near z && b) (all_near_is zs)
-
--- the tests of terms and of rows are tests against a limit
-pub within-near : (zs : List ℤ) → all_within (pos 1000000) zs ≡ all_near zs
+-- the limit of terms as a limit that is given
+pub within_near : (zs : List ℤ) → all_within (pos 1000000) zs ≡ all_near zs
 unfolding all_within all_near
-within-near [] = refl
-within-near (z ∷ zs) = ap (λ (b : Bool). near z && b) (within-near zs)
-
-pub within-small : (zs : List ℤ) → all_within (pos 4000000) zs ≡ all_small zs
-unfolding all_within all_small
-within-small [] = refl
-within-small (z ∷ zs) = ap (λ (b : Bool). within (pos 4000000) z && b) (within-small zs)
+within_near [] = refl
+within_near (z ∷ zs) = ap (λ (b : Bool). near z && b) (within_near zs)
 
 module _ {X : Type 0} (x : X) where
   pub kept-none : (b : Bool) → None ≡ cond b (Some x) None → b ≡ false
   kept-none true e = cc
   kept-none false e = refl
 
-  pub kept-some : (b : Bool) (y : X) → Some y ≡ cond b (Some x) None → (b ≡ true) × (y ≡ x)
+  kept-some : (b : Bool) (y : X) → Some y ≡ cond b (Some x) None → (b ≡ true) × (y ≡ x)
   kept-some true y e = (refl, cc)
   kept-some false y e = (cc, cc)
 
-module _ (limit : ℤ) (xs : List ℤ) where
-  abbrev at : ℕ → ℤ
-  at k = get_or xs k (pos 0)
+-- each is held, or one is not
+module _ (limit : ℤ) where
+  pub all-held : (xs ys : List ℤ) → length xs ≡ length ys → ((i : ℕ) → i < length xs → Some (get_or ys i (pos 0)) ≡ cond (within limit (get_or xs i (pos 0))) (Some (get_or xs i (pos 0))) None)
+      → Some ys ≡ cond (all_within limit xs) (Some xs) None
+  unfolding all_within
+  all-held [] [] l h = refl
+  all-held [] (y ∷ ys) l h = let no : ⊥ = omega arith in absurd no
+  all-held (x ∷ xs) [] l h = let no : ⊥ = omega arith in absurd no
+  all-held (x ∷ xs) (y ∷ ys) l h =
+      let k = kept-some x (within limit x) y (h 0 (omega arith)) in
+      let r = kept-some xs (all_within limit xs) ys (all-held xs ys (omega arith) (λ i j. h (suc i) (omega arith))) in
+      ap Some (ap₂ (λ z zs. z ∷ zs) k.1 r.1) ∙ sym (ap (λ b. cond b (Some (x ∷ xs)) None) (ap₂ (λ a b. a && b) k.0 r.0))
 
-  -- the first j are the same, and lie within the limit
-  pub record Held (out : List ℤ) (j : ℕ) : Type 0 where
-    pub same : Filled at out j
-    pub rest : all_within limit xs ≡ all_within limit (drop j xs)
+  one-broken : (d : ℤ) (xs : List ℤ) (i : ℕ) → i < length xs → within limit (get_or xs i d) ≡ false → all_within limit xs ≡ false
+  unfolding all_within
+  one-broken d [] i l h = let no : ⊥ = omega arith in absurd no
+  one-broken d (x ∷ xs) zero l h = ap (λ b. b && all_within limit xs) h
+  one-broken d (x ∷ xs) (suc i) l h = and_right (within limit x) _ (one-broken d xs i (omega arith) h)
 
-  pub held_none : (out : List ℤ) → length out ≡ 16 → Held out 0
-  held_none out h = record { same = filled_none at out h; rest = refl }
+  pub held-broken : (d : ℤ) (xs : List ℤ) (i : ℕ) → i < length xs → None ≡ cond (within limit (get_or xs i d)) (Some (get_or xs i d)) None → None ≡ cond (all_within limit xs) (Some xs) None
+  held-broken d xs i l h = sym (ap (λ b. cond b (Some xs) None) (one-broken d xs i l (kept-none (get_or xs i d) _ h)))
 
-  module _ (out : List ℤ) (j : ℕ) (h : Held out j) where
-    step : j < length xs → all_within limit xs ≡ (within limit (at j) && all_within limit (drop (j + 1) xs))
-    unfolding all_within
-    step l = h.rest ∙ at_drop_more (all_within limit) xs j (pos 0) l
-
-    pub held-broken : j < length xs → None ≡ cond (within limit (at j)) (Some (at j)) None → None ≡ cond (all_within limit xs) (Some xs) None
-    held-broken l e = sym (ap (λ (b : Bool). cond b (Some xs) None) (step l ∙ ap (λ (b : Bool). b && all_within limit (drop (j + 1) xs)) (kept-none (at j) _ e)))
-
-    pub held_more : (v : ℤ) → j < 16 → j < length xs → Some v ≡ cond (within limit (at j)) (Some (at j)) None → Held (set out j v) (j + 1)
-    held_more v m l e =
-        let k = kept-some (at j) _ v e in
-        record { same = filled_more at out j h.same v m k.1; rest = step l ∙ ap (λ (b : Bool). b && all_within limit (drop (j + 1) xs)) k.0 }
-
-    pub held_all : length xs ≡ 16 → 16 ≤ j → Some out ≡ cond (all_within limit xs) (Some xs) None
-    unfolding all_within
-    held_all l m =
-        let e = ext_get_or (pos 0) out xs (omega (arith, h.same.long)) (λ k n. h.same.done k (omega (arith, h.same.long))) in
-        ap Some e ∙ sym (ap (λ (b : Bool). cond b (Some xs) None) (h.rest ∙ at_drop_all (all_within limit) xs j (omega arith)))
+  pub held-all : {E : Type 0} (xs : List ℤ) (r : Result (List ℤ) E) → MatchResult r (λ ys. Some ys ≡ cond (all_within limit xs) (Some xs) None) (λ e. None ≡ cond (all_within limit xs) (Some xs) None) → result_ok r ≡ cond (all_within limit xs) (Some xs) None
+  held-all xs (Ok ys) h = h
+  held-all xs (Err e) h = h

@@ -1,18 +1,8 @@
--- Which terms are kept, and which a product gives.
-use Rattle.std.proofs.Common.{◌≡◌, Bool, true, false, cond, List, ℤ, pos, Some, None, Option, sym, ap, ◌∙◌}
-use Rattle.std.proofs.lemmas.Bool.{and_from, and_right}
+-- Which terms a product gives.
+use Rattle.std.proofs.Common.{◌≡◌, Bool, true, false, cond, None, Option, ap, ◌∙◌}
 use Rattle.language.specs.declared.term.Term.{Term}
-use Rattle.language.specs.declared.sign.Operator.TheVariants.{Product}
-use Rattle.language.specs.Terms.{near, all_near, scaled, is_constant, limited, worked}
-use Rattle.terms.specs.Narrow.{within, all_within, term_of}
-use Rattle.terms.proofs.Holding.{within-near}
-
-module _ (z : ℤ) (zs : List ℤ) where
-  pub limited-large : all_within (pos 1000000) zs ≡ false → None ≡ limited (term_of z zs)
-  limited-large h = sym (ap (λ (b : Bool). cond b (Some (term_of z zs)) None) (and_right (near z) (all_near zs) (sym (within-near zs) ∙ h)))
-
-  pub limited-kept : within (pos 1000000) z ≡ true → all_within (pos 1000000) zs ≡ true → Some (term_of z zs) ≡ limited (term_of z zs)
-  limited-kept h k = sym (ap (λ (b : Bool). cond b (Some (term_of z zs)) None) (and_from (near z) (all_near zs) h (sym (within-near zs) ∙ k)))
+use Rattle.language.specs.declared.operator.Operator.TheVariants.{Product}
+use Rattle.language.specs.Terms.{scaled, is_constant, limited, worked}
 
 module _ (t u : Term) where
   abbrev product : Bool → Bool → Option Term

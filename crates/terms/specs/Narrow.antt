@@ -1,17 +1,18 @@
--- Numbers that lie within a limit, and the term of some numbers.
-use Rattle.std.specs.Prelude.{ℕ, ◌*◌, Bool, true, ◌&&◌, List, [], ◌∷◌, ℤ, pos, neg_ℤ, int_le, nat_le}
+-- The term of some numbers, and how far the numbers of a total lie from 0.
+use Rattle.std.specs.Prelude.{ℕ, ◌*◌, Bool, cond, ◌&&◌, List, ℤ, pos, Some, None, Option, nat_le}
+use Rattle.ints.specs.Tests.{within, all_within}
 use Rattle.language.specs.declared.term.Term.{Term}
-
--- z lies between -limit and limit
-abbrev pub within : ℤ → ℤ → Bool
-within limit z = int_le (neg_ℤ limit) z && int_le z limit
-
-unfoldable pub all_within : ℤ → List ℤ → Bool
-all_within limit [] = true
-all_within limit (z ∷ zs) = within limit z && all_within limit zs
+use Rattle.terms.specs.declared.wide.Wide.{Wide}
 
 abbrev pub term_of : ℤ → List ℤ → Term
 term_of c cs = record { constant = c; coefs = cs }
+
+abbrev pub wide_term : Wide → Term
+wide_term w = term_of w.constant w.coefs
+
+-- the same numbers, where each lies within the limit
+abbrev pub narrowed : ℤ → Wide → Option Term
+narrowed limit w = cond (within limit w.constant && all_within limit w.coefs) (Some (wide_term w)) None
 
 -- a number within this limit and any product of two numbers of 32 bits have a sum of 64 bits
 abbrev pub room : ℕ
@@ -21,6 +22,6 @@ room = 4611686018427387903
 abbrev pub most_item : ℕ
 most_item = 1000000000000
 
--- the numbers of a total of n items
-abbrev pub modest : ℕ → ℤ → List ℤ → Bool
-modest n c cs = nat_le n 16384 && (within (pos (n * most_item)) c && all_within (pos (n * most_item)) cs)
+-- the sum of a total of n items
+abbrev pub modest : ℕ → Wide → Bool
+modest n w = nat_le n 16384 && (within (pos (n * most_item)) w.constant && all_within (pos (n * most_item)) w.coefs)

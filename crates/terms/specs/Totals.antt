@@ -2,15 +2,15 @@
 use Rattle.std.specs.Prelude.{◌≡◌, ℕ, ◌+◌, Bool, cond, ◌&&◌, List, [], ◌∷◌, ℤ, Some, None, Option, nat_lt}
 use Rattle.rows.specs.declared.row.Row.{Row}
 use Rattle.language.specs.declared.term.Term.{Term}
-use Rattle.language.specs.declared.sign.Comparison.{Comparison}
+use Rattle.language.specs.declared.comparison.Comparison.{Comparison}
 use Rattle.language.specs.Tree.{Side, Condition}
 use Rattle.language.specs.Terms.{zero_term, near, fits_term, plus, scaled}
 use Rattle.language.specs.Comparing.{rows, atom_term, side_term, condition_rows}
 use Rattle.terms.specs.declared.total.Total.{Total}
-use Rattle.terms.specs.Narrow.{term_of}
+use Rattle.terms.specs.Narrow.{wide_term}
 
 abbrev pub sum_of : Total → Term
-sum_of s = term_of s.constant s.coefs
+sum_of s = wide_term s.sum
 
 -- a total of n items takes one more, while it has room, if factor and term keep the limit of terms
 abbrev pub takes : ℕ → ℤ → Term → Bool

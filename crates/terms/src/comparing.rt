@@ -1,36 +1,35 @@
-ghost use Rattle.std.specs.Prelude.{◌≡◌, pos, ◌-ℤ◌};
+ghost use Rattle.std.specs.Prelude.{◌≡◌, pos, neg_ℤ, ◌-ℤ◌};
 ghost use Rattle.rows.specs.Rows.{row_of};
 ghost use Rattle.language.specs.Terms.{minus};
 ghost use Rattle.language.specs.Comparing.{at_most, unequal, rows, otherwise};
 ghost use Rattle.terms.specs.Listed.{list_of};
 ghost use Rattle.terms.specs.Totals.{sum_of, side_rows};
 
-use crate::arrays::{differences, narrow_all};
-use crate::numbers::{difference, narrow};
+use crate::arrays::differences;
+use crate::numbers::difference;
 use crate::rowlist::Rows;
 use crate::total::Total;
+use crate::wide::Wide;
 use language::{Comparison, Term};
 use rows::{Kind, ROW_LIMIT, Row};
 
-// The row of these numbers, or none where one lies past a row's limits.
-fn row(coefs: &[i64; 16], bound: i64, kind: Kind) -> Option<Row>
-    ensures { result ≡ row_of coefs.now bound kind }
+// The row that says of a wide term that it is at most 0, or not 0; none where a number lies past a row's limits.
+fn row(wide: &Wide, kind: Kind) -> Option<Row>
+    ensures { result ≡ row_of wide.now.coefs (neg_ℤ wide.now.constant) kind }
 {
-    let coefs = narrow_all(ROW_LIMIT, coefs)?;
-    let bound = narrow(ROW_LIMIT, bound)?;
-    Row::new(coefs, bound, kind)
+    let term = wide.narrowed(ROW_LIMIT)?;
+    Row::new(term.coefs, -term.constant, kind)
 }
 
-// The row of t - u against u's constant less t's, less so much more.
-fn compared(t: &Term, u: &Term, less: i8, kind: Kind) -> Option<Row>
-    ensures { result ≡ row_of (minus t.now u.now).coefs ((u.now.constant -ℤ t.now.constant) -ℤ less) kind }
+// The row that says so of t - u and so much more.
+fn compared(t: &Term, u: &Term, more: i8, kind: Kind) -> Option<Row>
+    ensures { result ≡ row_of (minus t.now u.now).coefs ((u.now.constant -ℤ t.now.constant) -ℤ more) kind }
 {
-    let room = difference(u.constant, t.constant);
-    row(
-        &differences(&t.coefs, &u.coefs),
-        room - i64::from(less),
-        kind,
-    )
+    let wide = Wide {
+        constant: difference(t.constant, u.constant) + i64::from(more),
+        coefs: differences(&t.coefs, &u.coefs),
+    };
+    row(&wide, kind)
 }
 
 // t <= u

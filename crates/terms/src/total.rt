@@ -1,6 +1,8 @@
 ghost use Rattle.std.specs.Prelude.{◌≡◌, true};
 ghost use Rattle.terms.specs.Narrow.{modest};
 
+use crate::wide::Wide;
+
 mod methods;
 
 // A total takes no more items.
@@ -10,7 +12,6 @@ pub const MOST_ITEMS: u32 = 16_384;
 #[derive(Clone, Copy)]
 pub struct Total {
     count: u32,
-    constant: i64,
-    coefs: [i64; 16],
-    ghost kept: { modest count constant coefs ≡ true },
+    sum: Wide,
+    ghost kept: { modest count sum ≡ true },
 }

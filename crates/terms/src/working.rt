@@ -1,10 +1,10 @@
 ghost use Rattle.std.specs.Prelude.{◌≡◌};
-ghost use Rattle.language.specs.declared.sign.Operator.TheVariants.{Product};
-ghost use Rattle.language.specs.Terms.{constant, quantity, scaled, fits_term, is_constant, limited, worked};
-ghost use Rattle.terms.specs.Narrow.{term_of};
+ghost use Rattle.language.specs.declared.operator.Operator.TheVariants.{Product};
+ghost use Rattle.language.specs.Terms.{constant, quantity, fits_term, is_constant, worked};
 
-use crate::arrays::{all_near, all_zero, differences, narrow_all, products, sums};
-use crate::numbers::{difference, is_near, narrow, product, sum};
+use crate::arrays::all_zero;
+use crate::wide::Wide;
+use ints::{all_within, within};
 use language::{Operator, TERM_LIMIT, Term};
 use rows::QUANTITIES;
 
@@ -13,7 +13,7 @@ pub fn constant(value: i32) -> Term
 {
     Term {
         constant: value,
-        coefs: [0; 16],
+        coefs: [0; QUANTITIES],
     }
 }
 
@@ -21,18 +21,19 @@ pub fn constant(value: i32) -> Term
 pub fn quantity(n: usize) -> Term
     ensures { result ≡ quantity n }
 {
-    let mut coefs = [0; 16];
+    let mut coefs = [0; QUANTITIES];
     if n < QUANTITIES {
         coefs[n] = 1;
     }
     Term { constant: 0, coefs }
 }
 
-// Whether the constant and each coefficient keep the limit.
+// Whether the constant and each coefficient keep the limit. Rows have such a test at their own limit; one function for both would only hand the limit on to these two calls.
+#[tactic(auto, using(crate::proofs::Holding::within_near))]
 pub fn fits(t: &Term) -> bool
     ensures { result ≡ fits_term t.now }
 {
-    is_near(t.constant) && all_near(&t.coefs)
+    within(TERM_LIMIT, i64::from(t.constant)) && all_within(TERM_LIMIT, &t.coefs)
 }
 
 // Whether every coefficient is 0.
@@ -42,28 +43,13 @@ pub fn is_constant(t: &Term) -> bool
     all_zero(&t.coefs)
 }
 
-// The term of these numbers, where they keep the limit.
-pub(crate) fn limited(constant: i64, coefs: &[i64; 16]) -> Option<Term>
-    ensures { result ≡ limited (term_of constant coefs.now) }
-{
-    let constant = narrow(TERM_LIMIT, constant)?;
-    let coefs = narrow_all(TERM_LIMIT, coefs)?;
-    Some(Term { constant, coefs })
-}
-
-fn scaled(k: i32, t: &Term) -> Option<Term>
-    ensures { result ≡ limited (scaled k t.now) }
-{
-    limited(product(k, t.constant), &products(k, &t.coefs))
-}
-
 fn multiplied(t: &Term, u: &Term) -> Option<Term>
     ensures { result ≡ worked Product t.now u.now }
 {
     if is_constant(t) {
-        scaled(t.constant, u)
+        Wide::scaled(t.constant, u).limited()
     } else if is_constant(u) {
-        scaled(u.constant, t)
+        Wide::scaled(u.constant, t).limited()
     } else {
         None
     }
@@ -74,11 +60,8 @@ pub fn worked(operator: Operator, t: &Term, u: &Term) -> Option<Term>
     ensures { result ≡ worked operator t.now u.now }
 {
     match operator {
-        Operator::Sum => limited(sum(t.constant, u.constant), &sums(&t.coefs, &u.coefs)),
-        Operator::Difference => limited(
-            difference(t.constant, u.constant),
-            &differences(&t.coefs, &u.coefs),
-        ),
+        Operator::Sum => Wide::sum(t, u).limited(),
+        Operator::Difference => Wide::difference(t, u).limited(),
         Operator::Product => multiplied(t, u),
     }
 }

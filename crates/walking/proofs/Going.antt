@@ -4,7 +4,7 @@ use Rattle.std.proofs.lemmas.List.{append-nil, append_assoc}
 use Rattle.std.proofs.lemmas.List.Concat.{flat_map-cons}
 use Rattle.std.specs.List.{slice_get, flat_map}
 use Rattle.rows.specs.declared.row.Row.{Row}
-use Rattle.language.specs.declared.owed.Duty.TheVariants.{Guard}
+use Rattle.language.specs.declared.duty.Duty.TheVariants.{Guard}
 use Rattle.language.specs.declared.refusal.Refusal.{Refusal}
 use Rattle.language.specs.declared.term.Term.{Term}
 use Rattle.language.specs.Comparing.{condition_rows}
@@ -20,7 +20,8 @@ use Rattle.terms.specs.declared.rowlist.Rows.{Rows}
 use Rattle.terms.specs.Listed.{list_of}
 use Rattle.walking.specs.Sides.{RowsAt, rows_in}
 use Rattle.walking.proofs.Owings.{pays-none, pays-then, breaks-then, breaks-first}
-use Rattle.walking.proofs.Siding.{cut}
+use Rattle.records.specs.Laying.{owed_of}
+use Rattle.records.proofs.Stretches.{cut}
 
 module _ (place : ℕ) (facts : List Row) where
   notes-append : (xs ys : List (Option Row)) (n : ℕ) → (owe_all place facts n (xs ++ ys)).notes ≡ (owe_all place facts n xs).notes ++ (owe_all place facts (owe_all place facts n xs).count ys).notes
@@ -42,10 +43,10 @@ module _ (place : ℕ) (facts : List Row) where
     pub notes : whole.notes ≡ so.notes ++ (owe_all place facts so.count rest).notes
     pub count : whole.count ≡ (owe_all place facts so.count rest).count
 
-  pub going_none : (rs : List (Option Row)) (t : Laid) → Going (owe_all place facts t.owed rs) rs t t
-  going_none rs t = record { so = record { count = t.owed; notes = [] }; paid = pays-none t; notes = refl; count = refl }
+  pub going_none : (rs : List (Option Row)) (t : Laid) → Going (owe_all place facts (owed_of t) rs) rs t t
+  going_none rs t = record { so = record { count = owed_of t; notes = [] }; paid = pays-none t; notes = refl; count = refl }
 
-  pub going_turn : (whole : Owing) (xs ys : List (Option Row)) (t u v : Laid) → Going whole (xs ++ ys) t u → Pays (owe_all place facts u.owed xs) u v → Going whole ys t v
+  pub going_turn : (whole : Owing) (xs ys : List (Option Row)) (t u v : Laid) → Going whole (xs ++ ys) t u → Pays (owe_all place facts (owed_of u) xs) u v → Going whole ys t v
   going_turn whole xs ys t u v g p =
       let q : Pays (owe_all place facts g.so.count xs) u v = subst (λ n. Pays (owe_all place facts n xs) u v) g.paid.count p in record {
         so = record { count = (owe_all place facts g.so.count xs).count; notes = g.so.notes ++ (owe_all place facts g.so.count xs).notes };
@@ -54,7 +55,7 @@ module _ (place : ℕ) (facts : List Row) where
         count = g.count ∙ count-append xs ys g.so.count;
       }
 
-  pub going_break : (whole : Owing) (e : Refusal) (xs ys : List (Option Row)) (t u v : Laid) → Going whole (xs ++ ys) t u → Breaks e (owe_all place facts u.owed xs).notes u v → Breaks e whole.notes t v
+  pub going_break : (whole : Owing) (e : Refusal) (xs ys : List (Option Row)) (t u v : Laid) → Going whole (xs ++ ys) t u → Breaks e (owe_all place facts (owed_of u) xs).notes u v → Breaks e whole.notes t v
   going_break whole e xs ys t u v g b =
       let q : Breaks e (owe_all place facts g.so.count xs).notes u v = subst (λ n. Breaks e (owe_all place facts n xs).notes u v) g.paid.count b in
       subst (λ ns. Breaks e ns t v) (sym (g.notes ∙ ap (λ ns. g.so.notes ++ ns) (notes-append xs ys g.so.count)))

@@ -69,6 +69,10 @@ module _ (place : ℕ) (facts : List Row) where
       went (Ok v) t = (notes ∙ t.0, t.1 ∙ sym (facts-then o rs))
       went (Err e) t = (notes ∙ t.0, (m.0 ++ t.1.0, t.1.1 ∙ ap (λ xs. xs ++ t.1.0) m.1 ∙ append_assoc facts m.0 t.1.0))
 
+  pub took-none : Took (Ok tt) (assume place facts []) facts facts
+  unfolding assume first_fault
+  took-none = (refl, refl)
+
   -- one row that was taken is at the end
   pub one-more : (o : Option Row) → (more : List Row) × ((assume place facts (o ∷ [])).facts ≡ facts ++ more)
   unfolding assume

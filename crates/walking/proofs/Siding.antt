@@ -1,42 +1,19 @@
 -- A side added up item by item.
-use Rattle.std.proofs.Common.{◌≡◌, ℕ, suc, ◌+◌, ◌-◌, ◌<◌, ◌≤◌, ℤ, pos, Bool, true, false, cond, List, [], ◌∷◌, map, length, take, drop, get_or, Some, None, Option, sym, refl, ap, ◌∙◌, subst, ap₂, inl, inr, arith}
+use Rattle.std.proofs.Common.{◌≡◌, ℕ, ◌+◌, ◌-◌, ◌<◌, ◌≤◌, ℤ, pos, Bool, true, false, cond, List, [], ◌∷◌, map, length, drop, Some, None, Option, sym, refl, ap, ◌∙◌, subst, inl, inr, arith}
 use Rattle.std.proofs.lemmas.Bool.{and_from, lt-ltb, cases_lt}
-use Rattle.std.proofs.lemmas.List.{get_or_past, drop_more}
-use Rattle.std.proofs.lemmas.Option.{slice_get_within, get_or_from_slice_get, slice_get-get_or}
-use Rattle.std.proofs.ByRecursion.{All-get_or}
-use Rattle.std.specs.List.{slice_get}
+use Rattle.std.proofs.lemmas.List.{get_or_past, length-take, length-drop}
+use Rattle.std.proofs.ByRecursion.{All-get_or, All-take, All-drop}
+use Rattle.std.specs.List.{AllByRecursion}
 use Rattle.std.specs.Option.{unwrap_or}
 use Rattle.language.specs.declared.term.Term.{Term}
 use Rattle.language.specs.Terms.{constant, each, zero_term, plus, scaled, fits_term, all_near, near}
 use Rattle.language.specs.Tree as Tree
 use Rattle.language.specs.Comparing.{atom_term}
 use Rattle.records.specs.declared.condition.Item.{Item}
-use Rattle.records.specs.Columns.{no_item}
-use Rattle.records.specs.Tables.{stretch, item_of, side_in}
+use Rattle.records.specs.Tables.{stretch, atom_of, item_of, side_in}
 use Rattle.terms.specs.declared.total.Total.{Total}
 use Rattle.terms.specs.Totals.{sum_of, side_from, takes, seen, taken}
 use Rattle.walking.specs.Sides.{Fitting, Takable}
-
--- a stretch is its first entry, and then the others
-pub cut : {X : Type 0} (xs : List X) (from to : ℕ) (x : X) → from < to → slice_get xs from ≡ Some x → stretch xs from to ≡ x ∷ stretch xs (from + 1) to
-cut xs from to x h e =
-    ap₂ take (let z : to - from ≡ suc (to - (from + 1)) = omega arith in z) (drop_more xs from x (slice_get_within xs from x e) ∙ ap (λ y. y ∷ drop (from + 1) xs) (get_or_from_slice_get xs from x x e))
-
-module _ (items : List Item) where
-  -- the first item, and then the others
-  pub side-step : (from to : ℕ) (x : Item) → from < to → slice_get items from ≡ Some x → side_in items from to ≡ item_of x ∷ side_in items (from + 1) to
-  unfolding side_in
-  side-step from to x h e = ap (map item_of) (cut items from to x h e)
-
-  pub no-item : (at : ℕ) → at < length items → slice_get items at ≡ None → ⊥
-  no-item at h e = let z : ◌≡◌ {A = Option Item} (Some (get_or items at no_item)) None = sym (slice_get-get_or items at no_item h) ∙ e in cc
-
-  pub side-none : (from to : ℕ) → to ≤ from → side_in items from to ≡ []
-  unfolding side_in
-  side-none from to h = ap (λ n. map item_of (take n (drop from items))) (let z : to - from ≡ 0 = omega arith in z)
-
-  pub item-near : (at : ℕ) (x : Item) → Takable items → slice_get items at ≡ Some x → near x.factor ≡ true
-  item-near at x t e = subst (λ (i : Item). near i.factor ≡ true) (get_or_from_slice_get items at x x e) (All-get_or (λ (i : Item). near i.factor ≡ true) items at x (slice_get_within items at x e) t.near)
 
 module _ (ts : List Term) (r : Term) where
   fits-constant : (b : Bool) → fits_term (constant (pos (cond b 1 0))) ≡ true
@@ -53,11 +30,11 @@ module _ (ts : List Term) (r : Term) where
   ]
   atom-fits f h Tree.result = h
 
-  pub from-item : (t : Term) (i : Tree.Item) (is : Tree.Side) → side_from ts r t (i ∷ is) ≡ side_from ts r (plus (scaled i.factor (atom_term ts r i.atom)) t) is
+  from-item : (t : Term) (i : Tree.Item) (is : Tree.Side) → side_from ts r t (i ∷ is) ≡ side_from ts r (plus (scaled i.factor (atom_term ts r i.atom)) t) is
   unfolding side_from
   from-item t i is = refl
 
-  pub from-none : (t : Term) → side_from ts r t [] ≡ t
+  from-none : (t : Term) → side_from ts r t [] ≡ t
   unfolding side_from
   from-none t = refl
 
@@ -80,12 +57,40 @@ module _ (t : Total) (factor : ℤ) (u : Term) (few : t.count < 16384) (fine : n
   not-full e = let z : ◌≡◌ {A = Option (ℕ × Term)} None (Some (t.count + 1, plus (scaled factor u) (sum_of t))) = e ∙ comes in absurd (grind arith)
 
   -- so the total has one item more
-  pub one-counted : (o : Option Total) → seen o ≡ taken t factor u → (unwrap_or o t).count ≡ t.count + 1
+  one-counted : (o : Option Total) → seen o ≡ taken t factor u → (unwrap_or o t).count ≡ t.count + 1
   unfolding counted
   one-counted None e = not-full e
   one-counted (Some more) e = ap counted (e ∙ comes)
 
-  pub one-summed : (o : Option Total) → seen o ≡ taken t factor u → sum_of (unwrap_or o t) ≡ plus (scaled factor u) (sum_of t)
+  one-summed : (o : Option Total) → seen o ≡ taken t factor u → sum_of (unwrap_or o t) ≡ plus (scaled factor u) (sum_of t)
   unfolding summed
   one-summed None e = not-full e
   one-summed (Some more) e = ap summed (e ∙ comes)
+
+module _ (ts : List Term) (r : Term) where
+  -- so much of a side is added up, and these items are to come, for which a total has room
+  pub record Adding (side : Tree.Side) (left : List Item) (t : Total) : Type 0 where
+    pub few : t.count + length left ≤ 16384
+    pub near : AllByRecursion (λ (i : Item). near i.factor ≡ true) left
+    pub sum : side_from ts r zero_term side ≡ side_from ts r (sum_of t) (map item_of left)
+
+  pub adding_none : (items left : List Item) (from to : ℕ) (t : Total) → left ≡ stretch items from to → Takable items → t.count ≡ 0 → sum_of t ≡ zero_term → Adding (side_in items from to) left t
+  unfolding side_in
+  adding_none items left from to t e k n z = record {
+    few = omega (arith, n, k.few, ap length e, length-take (to - from) (drop from items), length-drop from items);
+    near = subst (AllByRecursion (λ (i : Item). near i.factor ≡ true)) (sym e) (All-take _ (to - from) (drop from items) (All-drop _ from items k.near));
+    sum = ap (λ u. side_from ts r u (map item_of (stretch items from to))) (sym z) ∙ ap (λ xs. side_from ts r (sum_of t) (map item_of xs)) (sym e);
+  }
+
+  pub adding_turn : (side : Tree.Side) (left : List Item) (x : Item) (rest : List Item) (t : Total) (u : Term) (o : Option Total) → left ≡ x ∷ rest → fits_term u ≡ true → u ≡ atom_term ts r (atom_of x.atom) → seen o ≡ taken t x.factor u → Adding side left t → Adding side rest (unwrap_or o t)
+  adding_turn side left x rest t u o e fits is took a =
+      let b : Adding side (x ∷ rest) t = subst (λ xs. Adding side xs t) e a in
+      let few : t.count < 16384 = omega (arith, b.few) in record {
+        few = omega (arith, b.few, one-counted t x.factor u few b.near.0 fits o took);
+        near = b.near.1;
+        sum = b.sum ∙ from-item ts r (sum_of t) (item_of x) (map item_of rest)
+            ∙ ap (λ z. side_from ts r z (map item_of rest)) (ap (λ z. plus (scaled x.factor z) (sum_of t)) (sym is) ∙ sym (one-summed t x.factor u few b.near.0 fits o took));
+      }
+
+  pub adding_end : (side : Tree.Side) (left : List Item) (t : Total) → left ≡ [] → Adding side left t → side_from ts r zero_term side ≡ sum_of t
+  adding_end side left t e a = a.sum ∙ ap (λ xs. side_from ts r (sum_of t) (map item_of xs)) e ∙ from-none ts r (sum_of t)

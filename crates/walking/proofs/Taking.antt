@@ -1,7 +1,6 @@
 -- Conditions that become facts one after another, with others still to come.
-use Rattle.std.proofs.Common.{◌≡◌, ℕ, ◌+◌, ◌-◌, ◌<◌, ◌≤◌, List, [], ◌∷◌, ◌++◌, map, length, take, drop, get_or, Some, None, Option, Ok, Err, sym, refl, ap, ◌∙◌, arith}
+use Rattle.std.proofs.Common.{◌≡◌, ℕ, List, [], ◌∷◌, ◌++◌, map, Some, None, Option, Ok, Err, sym, refl, ap, ◌∙◌, subst}
 use Rattle.std.proofs.lemmas.List.{append-nil, append_assoc}
-use Rattle.std.proofs.lemmas.Option.{slice_get-get_or}
 use Rattle.rows.specs.declared.row.Row.{Row}
 use Rattle.language.specs.declared.refusal.Refusal.{Refusal}
 use Rattle.language.specs.declared.term.Term.{Term}
@@ -9,10 +8,11 @@ use Rattle.language.specs.Comparing.{condition_rows}
 use Rattle.language.specs.Tree as Tree
 use Rattle.language.specs.Walking.{Known, Note, assume, assume_all, first_fault}
 use Rattle.language.proofs.Laws.{fault-first, fault-next}
-use Rattle.records.specs.Columns.{Columns, no_condition}
-use Rattle.records.specs.Tables.{condition_in, conditions_in}
-use Rattle.walking.specs.Knowing.{Took}
-use Rattle.walking.proofs.Siding.{cut}
+use Rattle.records.specs.declared.condition.Condition.{Condition}
+use Rattle.records.specs.Columns.{Columns}
+use Rattle.records.specs.Tables.{stretch, condition_in, conditions_in}
+use Rattle.std.specs.Option.{unwrap_or}
+use Rattle.walking.specs.Knowing.{Took, placed}
 
 -- facts are added at the end
 pub facts-more : (place : ℕ) (facts : List Row) (rs : List (Option Row)) → (more : List Row) × ((assume place facts rs).facts ≡ facts ++ more)
@@ -30,9 +30,16 @@ module _ (at : Tree.Condition → ℕ) (ts : List Term) (r : Term) where
     pub facts : whole.facts ≡ (assume_all at ts r now rest).facts
     pub more : (xs : List Row) × (now ≡ before ++ xs)
 
-  pub taking_none : (cs : List Tree.Condition) (facts : List Row) → Taking (assume_all at ts r facts cs) cs facts facts
+  taking_none : (cs : List Tree.Condition) (facts : List Row) → Taking (assume_all at ts r facts cs) cs facts facts
   unfolding first_fault
   taking_none cs facts = record { so = []; faultless = refl; notes = refl; facts = refl; more = ([], sym (append-nil facts)) }
+
+  -- all the conditions of a stretch are to come
+  pub taking_all : (p : Columns) (left : List Condition) (from to : ℕ) (facts : List Row) → left ≡ stretch p.conditions.entries from to → Taking (assume_all at ts r facts (conditions_in p.items.entries p.conditions.entries from to)) (map (condition_in p.items.entries) left) facts facts
+  unfolding conditions_in
+  taking_all p left from to facts e =
+      let all = map (condition_in p.items.entries) (stretch p.conditions.entries from to) in
+      subst (λ xs. Taking (assume_all at ts r facts all) (map (condition_in p.items.entries) xs) facts facts) (sym e) (taking_none all facts)
 
   all_notes : (c : Tree.Condition) (cs : List Tree.Condition) (facts : List Row) → (assume_all at ts r facts (c ∷ cs)).notes ≡ (assume (at c) facts (condition_rows ts r c)).notes ++ (assume_all at ts r (assume (at c) facts (condition_rows ts r c)).facts cs).notes
   unfolding assume_all
@@ -64,12 +71,7 @@ module _ (at : Tree.Condition → ℕ) (ts : List Term) (r : Term) where
   unfolding assume_all
   taking-end whole before now g = (ap first_fault (g.notes ∙ append-nil g.so) ∙ g.faultless, sym g.facts)
 
--- the condition at a position, and then the others
-module _ (p : Columns) where
-  pub conditions-step : (from to : ℕ) → from < to → to ≤ length p.conditions.entries → conditions_in p.items.entries p.conditions.entries from to ≡ condition_in p.items.entries (get_or p.conditions.entries from no_condition) ∷ conditions_in p.items.entries p.conditions.entries (from + 1) to
-  unfolding conditions_in
-  conditions-step from to h l = ap (map (condition_in p.items.entries)) (cut p.conditions.entries from to _ h (slice_get-get_or p.conditions.entries from no_condition (omega arith)))
-
-  pub conditions-none : (from to : ℕ) → to ≤ from → conditions_in p.items.entries p.conditions.entries from to ≡ []
-  unfolding conditions_in
-  conditions-none from to h = ap (λ n. map (condition_in p.items.entries) (take n (drop from p.conditions.entries))) (let z : to - from ≡ 0 = omega arith in z)
+-- the place at which a condition becomes a fact
+pub placed-at : (place : Option ℕ) (c : Tree.Condition) → unwrap_or place c.place ≡ placed place c
+placed-at (Some p) c = refl
+placed-at None c = refl

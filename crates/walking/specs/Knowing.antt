@@ -1,6 +1,5 @@
 -- What the walk's small steps answer: a fault that the walk notes, or how it goes on.
 use Rattle.std.specs.Prelude.{◌≡◌, ℕ, suc, List, ◌++◌, Some, None, Ok, Err, Option, Result, nat_lt}
-use Rattle.std.specs.List.{slice_get}
 use Rattle.rows.specs.declared.row.Row.{Row}
 use Rattle.language.specs.declared.refusal.Refusal.{Refusal}
 use Rattle.language.specs.declared.refusal.Refusal.TheVariants.{Full}
@@ -8,9 +7,6 @@ use Rattle.language.specs.declared.term.Term.{Term}
 use Rattle.language.specs.Limits.{quantities}
 use Rattle.language.specs.Terms.{quantity}
 use Rattle.language.specs.Tree as Tree
-use Rattle.records.specs.declared.condition.Condition.{Condition}
-use Rattle.records.specs.declared.condition.Item.{Item}
-use Rattle.records.specs.Tables.{condition_in}
 use Rattle.language.specs.Walking.{Known, limit, first_fault}
 
 -- rows were taken as facts; or the first fault on the way refuses, and the facts begin as before
@@ -27,7 +23,3 @@ Fresh (Err r) place before after = (first_fault (limit (nat_lt before quantities
 abbrev pub placed : Option ℕ → Tree.Condition → ℕ
 placed (Some p) c = p
 placed None c = c.place
-
--- so it is of the condition at a position, if there is one
-abbrev pub PlacedAt : ℕ → Option ℕ → List Condition → ℕ → Type 0
-PlacedAt n place conditions at = (c : Condition) (items : List Item) → slice_get conditions at ≡ Some c → n ≡ placed place (condition_in items c)

@@ -1,3 +1,4 @@
 pub mod Knowing
 pub mod Sides
 pub mod Owing
+pub mod Keeping

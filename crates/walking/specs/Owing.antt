@@ -6,20 +6,20 @@ use Rattle.language.specs.declared.term.Term.{Term}
 use Rattle.language.specs.Limits.{most_obligations}
 use Rattle.language.specs.Walking.{Note, owes, fault, Obligation, Owing, owe_checks, obligations_of, first_fault}
 use Rattle.records.specs.declared.laid.Laid.{Laid}
-use Rattle.records.specs.Laying.{columns_of}
+use Rattle.records.specs.Laying.{columns_of, records_of, owed_of}
 use Rattle.records.specs.Owing.{OwesAll}
 
 -- there are records for 128 obligations
 abbrev pub Spacious : Laid → Type 0
-Spacious t = 3200 ≤ length t.records.now
+Spacious t = 3200 ≤ length (records_of t)
 
 -- no fault is noted, and the obligations that are noted join those that stood in the tables, which stay otherwise
 pub record Pays (o : Owing) (t u : Laid) : Type 0 where
   pub faultless : first_fault o.notes ≡ None
   pub columns : columns_of u ≡ columns_of t
-  pub count : u.owed ≡ o.count
-  pub number : u.owed ≡ t.owed + length (obligations_of o.notes)
-  pub owes : (os : List Obligation) → length os ≡ t.owed → OwesAll t.records.now os → OwesAll u.records.now (os ++ obligations_of o.notes)
+  pub count : owed_of u ≡ o.count
+  pub number : owed_of u ≡ owed_of t + length (obligations_of o.notes)
+  pub owes : (os : List Obligation) → length os ≡ owed_of t → OwesAll (records_of t) os → OwesAll (records_of u) (os ++ obligations_of o.notes)
 
 -- the obligations that are noted before the first fault
 unfoldable pub owed_before : List Note → List Obligation
@@ -31,8 +31,8 @@ owed_before (fault r ∷ ns) = []
 pub record Breaks (r : Refusal) (notes : List Note) (t u : Laid) : Type 0 where
   pub fault : first_fault notes ≡ Some r
   pub columns : columns_of u ≡ columns_of t
-  pub number : u.owed ≡ t.owed + length (owed_before notes)
-  pub owes : (os : List Obligation) → length os ≡ t.owed → OwesAll t.records.now os → OwesAll u.records.now (os ++ owed_before notes)
+  pub number : owed_of u ≡ owed_of t + length (owed_before notes)
+  pub owes : (os : List Obligation) → length os ≡ owed_of t → OwesAll (records_of t) os → OwesAll (records_of u) (os ++ owed_before notes)
 
 abbrev pub Paid : Result (Unit {0}) Refusal → Owing → Laid → Laid → Type 0
 Paid (Ok v) o t u = Pays o t u

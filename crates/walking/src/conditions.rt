@@ -5,10 +5,9 @@ ghost use Rattle.walking.specs.Sides.{Sound};
 use crate::in_force::Terms;
 use records::Laid;
 
-mod places;
 mod sides;
 
-// The conditions of sound tables, read under the terms in force.
+// The conditions of sound tables, read under the terms in force. A stretch of them is given to each call and is no field here, since rows are also read at a position alone.
 #[derive(Clone, Copy)]
 pub struct Conditions<'t, 'r, 'a> {
     pub tables: &'t Laid<'r>,

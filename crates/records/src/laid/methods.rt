@@ -1,7 +1,7 @@
 ghost use Rattle.std.specs.Prelude.{◌≡◌, length, if◌then◌else◌, is_ok, nat_lt, IfOk};
 ghost use Rattle.std.specs.List.{slice_get};
 ghost use Rattle.records.specs.Columns.{pushed, fresh};
-ghost use Rattle.records.specs.Laying.{columns_of};
+ghost use Rattle.records.specs.Laying.{columns_of, records_of};
 
 use super::Laid;
 use crate::counts::Counts;
@@ -13,11 +13,11 @@ impl<'r> Laid<'r> {
     // Tables with nothing in them, over all the records.
     pub fn over(records: &'r mut [Record]) -> Laid<'r>
         ensures columns { columns_of result ≡ fresh (length records.old) records.entry.ghost_name }
-        ensures records { result.records.now ≡ records.old }
+        ensures records { records_of result ≡ records.old }
     {
         Laid {
             records,
-            counts: Counts::NONE,
+            counts: Counts::default(),
             owed: 0,
         }
     }

@@ -1,5 +1,6 @@
 ghost use Rattle.std.specs.Prelude.{◌≡◌, ◌+◌, ◌*◌, ◌<◌, ◌≤◌, length, is_ok};
 ghost use Rattle.records.specs.Added.{RowPut, RowsPut, HeaderPut, PutIf};
+ghost use Rattle.records.specs.Laying.{records_of, owed_of};
 ghost use Rattle.records.specs.Owing.{takes_one};
 
 use super::Laid;
@@ -9,12 +10,12 @@ use pile::Full;
 use rows::{MOST_FACTS, Row};
 
 // So many records hold the rows of an obligation, its facts and its goal as the last: they lie in lent records, so they are no list.
-const ROWS_EACH: usize = 25;
+const ROWS_EACH: usize = MOST_FACTS + 1;
 
 impl<'r> Laid<'r> {
     // How many obligations there are.
     pub fn owed(&self) -> usize
-        ensures { result ≡ self.now.owed }
+        ensures { result ≡ owed_of self.now }
     {
         self.owed
     }
@@ -30,6 +31,7 @@ impl<'r> Laid<'r> {
         requires { base + length rows.now ≤ length self.old.records.now }
         ensures { RowsPut self.old self.new base rows.now (length rows.now) }
     {
+        // By positions: of records that an `iter_mut` under a `zip` wrote, a proof knows only how many they are.
         for (j, row) in rows.iter().enumerate() {
             self.put_row(base + j, *row);
         }
@@ -44,7 +46,7 @@ impl<'r> Laid<'r> {
 
     // What is owed at a place joins the obligations, with the facts of its question and its goal. Where there are too many facts, or no room, that is the answer and nothing changes.
     pub fn owe(&mut self, duty: Duty, place: usize, facts: &[Row], goal: Row) -> Result<(), Full>
-        ensures value { is_ok result ≡ takes_one (length self.old.records.now) self.old.owed (length facts.now) }
+        ensures value { is_ok result ≡ takes_one (length (records_of self.old)) (owed_of self.old) (length facts.now) }
         ensures put { PutIf (is_ok result) self.old self.new duty place facts.now goal }
     {
         let count = self.owed;

@@ -1,31 +1,22 @@
 ghost use Rattle.std.specs.Prelude.{◌≡◌};
-ghost use Rattle.rows.specs.Limits.{small, all_small, fits};
+ghost use Rattle.rows.specs.Limits.{fits};
 ghost use Rattle.rows.specs.Meaning.{coef};
 ghost use Rattle.rows.specs.Rows.{row_of};
 
-use super::{Kind, ROW_LIMIT, Row};
+use super::{Kind, QUANTITIES, ROW_LIMIT, Row};
+use ints::{all_within, within};
 
-fn is_small(x: i32) -> bool
-    ensures { result ≡ small x }
-{
-    -ROW_LIMIT <= x && x <= ROW_LIMIT
-}
-
-fn all_small(xs: &[i32]) -> bool
-    ensures { result ≡ all_small xs.now }
-{
-    xs.iter().all(|x| is_small(*x))
-}
-
+// Terms have such a test at their own limit; one function for both would only hand the limit on to these two calls.
+#[tactic(auto, using(crate::proofs::Limiting::within_small))]
 fn within_limits(coefs: &[i32], bound: i32) -> bool
     ensures { result ≡ fits coefs.now bound }
 {
-    is_small(bound) && all_small(coefs)
+    within(ROW_LIMIT, i64::from(bound)) && all_within(ROW_LIMIT, coefs)
 }
 
 impl Row {
     // The row of these numbers, or none where one lies past the limits.
-    pub fn new(coefs: [i32; 16], bound: i32, kind: Kind) -> Option<Row>
+    pub fn new(coefs: [i32; QUANTITIES], bound: i32, kind: Kind) -> Option<Row>
         ensures { result ≡ row_of coefs bound kind }
     {
         if within_limits(&coefs, bound) {
@@ -42,7 +33,7 @@ impl Row {
         self.coefs.get(j).copied().unwrap_or(0)
     }
 
-    pub fn coefs(&self) -> [i32; 16]
+    pub fn coefs(&self) -> [i32; QUANTITIES]
         ensures { result ≡ self.now.coefs }
     {
         self.coefs

@@ -3,15 +3,16 @@ ghost use Rattle.language.specs.Terms.{zero_term, limited};
 ghost use Rattle.terms.specs.Totals.{sum_of, takes, seen, taken, InTurn};
 
 use super::{MOST_ITEMS, Total};
-use crate::arrays::add_products;
-use crate::numbers::{add_product, is_near};
-use crate::working::{fits, limited};
-use language::Term;
+use crate::wide::Wide;
+use crate::working::fits;
+use ints::within;
+use language::{TERM_LIMIT, Term};
+use rows::QUANTITIES;
 
 fn takes(count: u32, factor: i32, t: &Term) -> bool
     ensures { result ≡ takes count factor t.now }
 {
-    count < MOST_ITEMS && is_near(factor) && fits(t)
+    count < MOST_ITEMS && within(TERM_LIMIT, i64::from(factor)) && fits(t)
 }
 
 impl Total {
@@ -23,8 +24,10 @@ impl Total {
     {
         Total {
             count: 0,
-            constant: 0,
-            coefs: [0; 16],
+            sum: Wide {
+                constant: 0,
+                coefs: [0; QUANTITIES],
+            },
         }
     }
 
@@ -35,12 +38,9 @@ impl Total {
         if !takes(self.count, factor, t) {
             return None;
         }
-        let constant = add_product(self.constant, factor, t.constant);
-        let coefs = add_products(&self.coefs, factor, &t.coefs);
         Some(Total {
             count: self.count + 1,
-            constant,
-            coefs,
+            sum: self.sum.plus_scaled(factor, t),
         })
     }
 
@@ -48,6 +48,6 @@ impl Total {
     pub fn finish(self) -> Option<Term>
         ensures { result ≡ limited (sum_of self) }
     {
-        limited(self.constant, &self.coefs)
+        self.sum.limited()
     }
 }

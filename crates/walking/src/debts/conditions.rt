@@ -1,6 +1,7 @@
-ghost use Rattle.std.specs.Prelude.{◌≡◌, ◌≤◌, length};
+ghost use Rattle.std.specs.Prelude.{◌≤◌, length};
 ghost use Rattle.language.specs.Walking.{owe_all};
-ghost use Rattle.records.specs.Laying.{columns_of};
+ghost use Rattle.records.specs.Laying.{columns_of, owed_of};
+ghost use Rattle.walking.specs.Keeping.{DebtsKept};
 ghost use Rattle.walking.specs.Owing.{Paid};
 ghost use Rattle.walking.specs.Sides.{Sound, rows_in};
 
@@ -20,10 +21,10 @@ impl Debts<'_, '_, '_> {
     ) -> Result<(), Refusal>
         requires sound { Sound (columns_of self.old.tables.now) }
         requires within { listed.to ≤ length (columns_of self.old.tables.now).conditions.entries }
-        ensures paid { Paid result (owe_all place self.old.facts.now self.old.tables.now.owed (rows_in (columns_of self.old.tables.now) terms.entry.names.now terms.entry.outcome.now listed.from listed.to)) self.old.tables.now self.new.tables.now }
-        ensures lender { self.new.tables.ghost_name ≡ self.old.tables.ghost_name }
-        ensures facts { self.new.facts.now ≡ self.old.facts.now }
+        ensures paid { Paid result (owe_all place self.old.facts.now (owed_of self.old.tables.now) (rows_in (columns_of self.old.tables.now) terms.entry.names.now terms.entry.outcome.now listed.from listed.to)) self.old.tables.now self.new.tables.now }
+        ensures kept { DebtsKept self.old self.new }
     {
+        // Owing writes the tables, so no iterator may borrow them here: the positions are gone through.
         for at in listed.from..listed.to {
             let conditions = Conditions {
                 tables: &*self.tables,

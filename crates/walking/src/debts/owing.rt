@@ -1,10 +1,11 @@
-ghost use Rattle.std.specs.Prelude.{◌≡◌};
 ghost use Rattle.language.specs.Walking.{owe, owe_all};
 ghost use Rattle.terms.specs.Listed.{list_of};
+ghost use Rattle.records.specs.Laying.{owed_of};
+ghost use Rattle.walking.specs.Keeping.{DebtsKept};
 ghost use Rattle.walking.specs.Owing.{Paid, checks};
 
 use super::Debts;
-use language::{Duty, MOST_OBLIGATIONS, Refusal, Term};
+use language::{Check, Duty, MOST_OBLIGATIONS, Refusal, Term};
 use rows::Row;
 use terms::{Rows, at_most, below, constant};
 
@@ -17,9 +18,8 @@ impl Debts<'_, '_, '_> {
         work: usize,
         row: Option<Row>,
     ) -> Result<(), Refusal>
-        ensures paid { Paid result (owe duty place work self.old.facts.now self.old.tables.now.owed row) self.old.tables.now self.new.tables.now }
-        ensures lender { self.new.tables.ghost_name ≡ self.old.tables.ghost_name }
-        ensures facts { self.new.facts.now ≡ self.old.facts.now }
+        ensures paid { Paid result (owe duty place work self.old.facts.now (owed_of self.old.tables.now) row) self.old.tables.now self.new.tables.now }
+        ensures kept { DebtsKept self.old self.new }
     {
         let row = row.ok_or(Refusal::Large { place: work })?;
         if self.tables.owed() >= MOST_OBLIGATIONS {
@@ -32,17 +32,13 @@ impl Debts<'_, '_, '_> {
 
     // The rows of a comparison are owed as guards at a place.
     pub fn owe_rows(&mut self, place: usize, rows: Rows) -> Result<(), Refusal>
-        ensures paid { Paid result (owe_all place self.old.facts.now self.old.tables.now.owed (list_of rows)) self.old.tables.now self.new.tables.now }
-        ensures lender { self.new.tables.ghost_name ≡ self.old.tables.ghost_name }
-        ensures facts { self.new.facts.now ≡ self.old.facts.now }
+        ensures paid { Paid result (owe_all place self.old.facts.now (owed_of self.old.tables.now) (list_of rows)) self.old.tables.now self.new.tables.now }
+        ensures kept { DebtsKept self.old self.new }
     {
-        match rows {
-            Rows::One(row) => self.owe(Duty::Guard, place, place, row),
-            Rows::Two(first, second) => {
-                self.owe(Duty::Guard, place, place, first)?;
-                self.owe(Duty::Guard, place, place, second)
-            }
+        for row in rows {
+            self.owe(Duty::Guard, place, place, row)?;
         }
+        Ok(())
     }
 
     // The two checks of an index are owed at a list's name: that it is not below 0, and that it is below the list's length.
@@ -53,11 +49,15 @@ impl Debts<'_, '_, '_> {
         index: &Term,
         size: &Term,
     ) -> Result<(), Refusal>
-        ensures paid { Paid result (checks place work self.old.facts.now self.old.tables.now.owed index.now size.now) self.old.tables.now self.new.tables.now }
-        ensures lender { self.new.tables.ghost_name ≡ self.old.tables.ghost_name }
-        ensures facts { self.new.facts.now ≡ self.old.facts.now }
+        ensures paid { Paid result (checks place work self.old.facts.now (owed_of self.old.tables.now) index.now size.now) self.old.tables.now self.new.tables.now }
+        ensures kept { DebtsKept self.old self.new }
     {
-        self.owe(Duty::Below, place, work, at_most(&constant(0), index))?;
-        self.owe(Duty::Above, place, work, below(index, size))
+        self.owe(
+            Duty::Check(Check::Below),
+            place,
+            work,
+            at_most(&constant(0), index),
+        )?;
+        self.owe(Duty::Check(Check::Above), place, work, below(index, size))
     }
 }

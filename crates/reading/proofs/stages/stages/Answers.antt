@@ -1,5 +1,6 @@
+-- Each answer begins with names for the parts of its own goal, which has a type of its own.
 use Rattle.std.specs.Prelude.{IfOk}
-use Rattle.std.proofs.Common.{rules, ◌≡◌, ℕ, ◌-◌, ◌≤◌, Bool, [], length, take, ℤ, Err, sym, refl, ap, ◌∙◌, subst, ap₂, arith, w32, SFits, to_z, of_z}
+use Rattle.std.proofs.Common.{rules, ◌≡◌, ℕ, ◌≤◌, Bool, [], length, take, ℤ, Err, sym, refl, ap, ◌∙◌, subst, ap₂, arith, w32, SFits, to_z, of_z}
 use Rattle.std.proofs.lemmas.Int.{to_z-of_z}
 use Rattle.letters.specs.Cuts.{cut_of}
 use Rattle.letters.specs.Spelling as Spelling
@@ -9,9 +10,9 @@ use Rattle.grammar.specs.Derives.{DSheet}
 use Rattle.grammar.specs.Lawful.{OnlySheet, Lawful}
 use Rattle.grammar.specs.Parsed.{Parsed}
 use Rattle.naming.specs.Sources.{sheet_in}
-use Rattle.language.specs.declared.refusal.Refusal.{Refusal}
-use Rattle.reading.specs.Reading.{Reads, misspelling, misreading, in_range, out_of_range, misspelt}
+use Rattle.reading.specs.Reading.{misspelling, misreading, in_range, out_of_range, misspelt}
 use Rattle.reading.specs.Answers.{Staged}
+use Rattle.reading.proofs.Sheets.{Same, same-fit, same-derived, same-checked}
 use Rattle.reading.proofs.Staging.{ok_kept, err_kept, cut_ok, cut-err, cut-front, cut-few, small, sheet-is, refused-by-grammar, checked-answers, enough}
 use Rattle.reading.proofs.stages.stages.Goals as goal
 
@@ -33,7 +34,7 @@ returns-in_err-count c =
 pub returns-in_err-made : goal.returns-in_err-made
 returns-in_err-made c =
     let i = in_reach c.args.low c.args.high _ (length c.args.records.now) _ c.ranges.low c.ranges.high c.in_range.ensures refl ∙ c.if-not-in_range.false in
-    let text = c.args.text.now in let n = c.in_ok-count.count in let nodes = c.parse.new.nodes in let ts = take (n - 0) c.cut.new.tokens in
+    let text = c.args.text.now in let n = c.in_ok-count.count in let nodes = c.parse.new.nodes in let ts = take n c.cut.new.tokens in
     let k = ok_kept _ c.cut.result c.map_err.result n c.map_err.ensures.cases c.in_ok-count.was in
     let value = sym k ∙ c.cut.ensures.value in
     let cut_few = subst (λ r. IfOk r (λ m. m ≤ 16384)) k c.cut.ensures.few in
@@ -52,19 +53,20 @@ names_then_counts-requires c =
     let text = c.args.text.now in let n = c.in_ok-count.count in let made = c.in_ok-made.made in
     let k = ok_kept _ c.cut.result c.map_err.result n c.map_err.ensures.cases c.in_ok-count.was in
     let value = sym k ∙ c.cut.ensures.value in let nodes = c.parse.new.nodes in
-    let ts = take (n - 0) c.cut.new.tokens in
+    let ts = take n c.cut.new.tokens in
     let cut_few = subst (λ r. IfOk r (λ m. m ≤ 16384)) k c.cut.ensures.few in
     let law = subst (λ r. Told text r c.cut.new.tokens) k c.cut.ensures.law in
     let j = ok_kept _ c.parse.result c.map_err-2.result made c.map_err-2.ensures.cases c.in_ok-made.was in
     let parsed = subst (λ r. Parsed r ts (length text) 16384 nodes) j c.parse.ensures.parsed in
     let lawful = subst (λ r. Lawful r ts (length text) nodes) j c.parse.ensures.law in
-    let r : Spelling.Reads 0 text ts [] = subst (λ k. Spelling.Reads 0 text (take k c.cut.new.tokens) []) (let z : n ≡ n - 0 = omega arith in z) law.0 in
+    let r : Spelling.Reads 0 text ts [] = law.0 in
     let few = cut-few text _ c.cut.new.tokens n 16384 value c.cut.ensures.written cut_few in
     let s = parsed.said.1 in
-    let long = c.parse.auto.nodes in record {
-      small = small text ts r (length text);
-      few = few;
-      derived = subst (DSheet (look_in ts (length text))) (sym (sheet-is text ts nodes made few (omega (arith, s.within, long)) s.within)) lawful.derived;
+    let long = c.parse.auto.nodes in
+    let w = c.new-sheet.result in let ns = take made nodes in
+    let same : Same w text ts ns = record { of-text = c.new-sheet.ensures.text; of-tokens = c.new-sheet.ensures.tokens; of-nodes = c.new-sheet.ensures.nodes } in record {
+      fit = same-fit w text ts ns same few (small text ts r (length text));
+      derived = same-derived w text ts ns same few (subst (DSheet (look_in ts (length text))) (sym (sheet-is text ts nodes made few (omega (arith, s.within, long)) s.within)) lawful.derived);
       ample = enough c.args.low c.args.high (length c.args.records.now) i;
     }
 
@@ -74,7 +76,7 @@ returns c =
     let text = c.args.text.now in let n = c.in_ok-count.count in let made = c.in_ok-made.made in
     let k = ok_kept _ c.cut.result c.map_err.result n c.map_err.ensures.cases c.in_ok-count.was in
     let value = sym k ∙ c.cut.ensures.value in let nodes = c.parse.new.nodes in
-    let ts = take (n - 0) c.cut.new.tokens in
+    let ts = take n c.cut.new.tokens in
     let cut_few = subst (λ r. IfOk r (λ m. m ≤ 16384)) k c.cut.ensures.few in
     let j = ok_kept _ c.parse.result c.map_err-2.result made c.map_err-2.ensures.cases c.in_ok-made.was in
     let parsed = subst (λ r. Parsed r ts (length text) 16384 nodes) j c.parse.ensures.parsed in
@@ -82,8 +84,8 @@ returns c =
     let few = cut-few text _ c.cut.new.tokens n 16384 value c.cut.ensures.written cut_few in
     let s = parsed.said.1 in
     let long = c.parse.auto.nodes in
-    let sheet = sheet_in text ts (take (made - 0) nodes) in
+    let sheet = sheet_in text ts (take made nodes) in
     let only : OnlySheet (look_in ts (length text)) sheet = subst (OnlySheet (look_in ts (length text))) (sym (sheet-is text ts nodes made few (omega (arith, s.within, long)) s.within)) lawful in
     checked-answers c.names_then_counts.result text _ _ (length c.args.records.now) sheet _ i (sym c.names_then_counts.auto.records) (cut_ok (cut_of text) n value).0
     (subst (λ us. OnlySheet (look_in us (length text)) sheet) (cut-front text _ c.cut.new.tokens n value c.cut.ensures.written) only)
-    c.names_then_counts.ensures
+    (same-checked c.new-sheet.result text ts (take made nodes) (record { of-text = c.new-sheet.ensures.text; of-tokens = c.new-sheet.ensures.tokens; of-nodes = c.new-sheet.ensures.nodes }) c.names_then_counts.result _ c.names_then_counts.ensures)

@@ -13,7 +13,9 @@ use Rattle.records.specs.Tables as lists
 use Rattle.naming.specs.Resolving.{param_of}
 use Rattle.resolving.proofs.Adding.{Adding, begun, turn, whole}
 use Rattle.records.specs.Columns.{Columns}
-use Rattle.resolving.proofs.Alone.{param_taken, param_alone, params_then, params_none}
+use Rattle.records.specs.Kept.{param_laws}
+use Rattle.records.proofs.Lawful.{taken}
+use Rattle.resolving.proofs.Alone.{param_alone, params_then, params_none}
 use Rattle.resolving.proofs.heads.params_at.Goals as goal
 
 pub loop-param-init : goal.loop-param-init
@@ -33,7 +35,7 @@ loop-param-preserved c =
     let w = c.args.sheet in let i = c.loop-param.invariant in let q = c.push in let ps = left c.next.new.self in
     let e : left c.loop-param.param-iterator ≡ written (look_of (source_of w)) c.in-Some.param ∷ ps = c.in-Some.ensures.steps.0 ∙ ap (λ (v : Written). written (look_of (source_of v)) c.in-Some.param ∷ ps) i.sheet in
     let n = ap length e in
-    let g = param_taken (columns_of c.loop-param.tables) (columns_of q.new.self) c.sort_of.result (is_ok q.result) q.ensures.value (omega (arith, i.room)) q.ensures.held in
+    let g = taken param_laws (columns_of c.loop-param.tables) (columns_of q.new.self) c.sort_of.result (is_ok q.result) q.ensures.value (omega (arith, i.room)) q.ensures.held in
     let p = ap (λ (c : Columns). c.params.entries) g in
     let k = ap length p ∙ length_push (columns_of c.loop-param.tables).params.entries c.sort_of.result in record {
       adding = turn lists.param_of _ _ (columns_of c.args.tables.now).params.entries (columns_of c.loop-param.tables).params.entries _ c.sort_of.result (param_of (written (look_of (source_of w)) c.in-Some.param)) _ i.adding (ap (map param_of) e) c.sort_of.ensures p;

@@ -1,7 +1,8 @@
 use Rattle.std.proofs.Common.{get_or, ℤ, pos, ◌+ℤ◌, ◌*ℤ◌, ap, ◌∙◌, ap₂, arith, w32, w64, to_z, of_z, rules}
 use Rattle.std.proofs.lemmas.Int.{to_z-of_z}
 use Rattle.language.specs.Terms.{each}
-use Rattle.terms.specs.Narrow.{within, room}
+use Rattle.ints.specs.Tests.{within}
+use Rattle.terms.specs.Narrow.{room}
 use Rattle.terms.proofs.Bounds.{within-from, within-at}
 use Rattle.terms.proofs.Filling.{filled_more, filled-all}
 use Rattle.terms.proofs.arrays.add_products.Goals as goal

@@ -13,10 +13,10 @@ pub loop-self-init : goal.loop-self-init
 loop-self-init c = ran-start _ _ _ _ _ refl
 
 pub loop-self-preserved : goal.loop-self-preserved
-loop-self-preserved c = turn_on (chain-chained (is_a Comma) (condition_on c.args.res)) c.loop-self.invariant c.loop-self-test.ensures.told (nexts c.bump.ensures.token c.bump.ensures.bumped) (λ x h. seq-ok _ c.in_ok-condition-2.ensures.went (gives tt)) (omega arith) (omega arith) (omega arith)
+loop-self-preserved c = turn_on (chain-chained (is_a Comma) (condition_on c.args.with_result)) c.loop-self.invariant c.loop-self-test.ensures.told (nexts c.bump.ensures.token c.bump.ensures.bumped) (λ x h. seq-ok _ c.in_ok-condition-2.ensures.went (gives tt)) (omega arith) (omega arith) (omega arith)
 
 pub returns-in_err-condition-2-clause-went : goal.returns-in_err-condition-2-clause-went
-returns-in_err-condition-2-clause-went c = broke c.from_residual-in_err-condition-2.ensures.1 (seq-ok _ c.in_ok-condition.ensures.went (turn-err (chain-chained (is_a Comma) (condition_on c.args.res)) c.loop-self.invariant c.loop-self-test.ensures.told (nexts c.bump.ensures.token c.bump.ensures.bumped) (λ x h. seq-err _ c.in_err-condition-2.ensures.went) _ tt))
+returns-in_err-condition-2-clause-went c = broke c.from_residual-in_err-condition-2.ensures.1 (seq-ok _ c.in_ok-condition.ensures.went (turn-err (chain-chained (is_a Comma) (condition_on c.args.with_result)) c.loop-self.invariant c.loop-self-test.ensures.told (nexts c.bump.ensures.token c.bump.ensures.bumped) (λ x h. seq-err _ c.in_err-condition-2.ensures.went) _ tt))
 
 pub returns-clause-went : goal.returns-clause-went
-returns-clause-went c = seq-ok _ c.in_ok-condition.ensures.went (turn_end (chain-chained (is_a Comma) (condition_on c.args.res)) c.loop-self.invariant c.loop-self-test.ensures.told _ tt)
+returns-clause-went c = seq-ok _ c.in_ok-condition.ensures.went (turn_end (chain-chained (is_a Comma) (condition_on c.args.with_result)) c.loop-self.invariant c.loop-self-test.ensures.told _ tt)

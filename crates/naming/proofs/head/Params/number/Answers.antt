@@ -1,4 +1,7 @@
 use Rattle.std.proofs.Common.{is_some, unwrap_or, ◌∙◌, inl, arith}
+use Rattle.letters.specs.declared.kind.Kind.TheVariants.{Comma}
+use Rattle.grammar.specs.Parsers.{is_a}
+use Rattle.grammar.specs.Stretches.{param_at}
 use Rattle.grammar.specs.Trees.{look_of}
 use Rattle.naming.specs.Sources.{source_of}
 use Rattle.naming.proofs.Begins.{length-left, drained}
@@ -7,7 +10,8 @@ use Rattle.naming.proofs.head.Params.number.Goals as goal
 pub count-requires-clause-fits : goal.count-requires-clause-fits
 count-requires-clause-fits c =
     let s = c.args.self in
-    let n = length-left (look_of (source_of s.sheet)) (unwrap_or s.next 0) s.rest (is_some s.next) in
+    let l = look_of (source_of s.sheet) in
+    let n = length-left l (is_a Comma) (λ t i. param_at l i) (param_at l (unwrap_or s.next 0)) s.rest (is_some s.next) in
     inl (omega (arith, s.within))
 
 pub returns : goal.returns

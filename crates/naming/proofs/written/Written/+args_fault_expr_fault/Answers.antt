@@ -1,6 +1,6 @@
 -- Each return is one way through the tree: what was looked at before it, call by call.
 use Rattle.std.specs.Prelude.{is_ok}
-use Rattle.std.proofs.Common.{◌≡◌, ℕ, ◌<◌, List, [], length, drop, is_some, Some, None, sym, refl, ap, ◌∙◌, inl, inr, arith}
+use Rattle.std.proofs.Common.{◌≡◌, ℕ, ◌<◌, List, [], length, drop, is_some, Some, None, sym, refl, ap, ◌∙◌, ap₂, inl, inr, arith}
 use Rattle.letters.specs.declared.token.Token.{Token}
 use Rattle.grammar.specs.Raw.{none}
 use Rattle.grammar.specs.Stretches.{conditions_at}
@@ -154,7 +154,7 @@ expr_fault-returns-in-Claim t c =
     let F = λ (ns : List ℕ). condition_faults w.text.now (tokens_of w ns) (conditions_at (length w.tokens.now) (look_of s) c.in-Claim.conditions).value in
     expr-at w ls c.args.top at _ (ap Some (sym c.in-Claim.is) ∙ c.in_ok-node.ensures.read)
     (both (expr_at w ls at c.in-Claim.inner) F c.earlier-in-Claim.ensures c.expr_fault-claimed.ensures
-    (still F c.conditions_fault-conditions.result c.expr_fault-claimed.new.names (c.conditions_fault-conditions.ensures ∙ ap (λ ns. least (F ns)) c.as_slice-in-Claim.ensures)))
+    (still F c.conditions_fault-conditions.result c.expr_fault-claimed.new.names (c.conditions_fault-conditions.ensures ∙ ap₂ (λ ns cs. least (condition_faults w.text.now (tokens_of w ns) cs)) c.as_slice-in-Claim.ensures c.conditions.ensures.conditions)))
 
 pub expr_fault-returns-in-Nest : goal.expr_fault-returns-in-Nest
 unfolding expr_faults

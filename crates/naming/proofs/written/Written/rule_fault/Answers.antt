@@ -1,8 +1,5 @@
-use Rattle.std.proofs.Common.{cond, [], ◌∷◌, length, is_some, sym, refl, ap, ◌∙◌}
-use Rattle.letters.specs.declared.kind.Kind.TheVariants.{Needs, Gives}
+use Rattle.std.proofs.Common.{cond, [], ◌∷◌, length, is_some, sym, ap, ◌∙◌, ap₂}
 use Rattle.letters.specs.declared.token.Token.{Token}
-use Rattle.letters.specs.Kinds.{same_kind}
-use Rattle.grammar.specs.Stretches.{optional_at}
 use Rattle.grammar.specs.Trees.{look_of, rules_to}
 use Rattle.pile.specs.Entries.{entries}
 use Rattle.naming.specs.Faults.{head_faults, condition_faults}
@@ -22,14 +19,6 @@ pub returns-in_err-rule : goal.returns-in_err-rule
 returns-in_err-rule c =
     let w = c.args.self in c.from_residual.ensures ∙ no-rule (sheet_of w) (rules_to (source_of w) c.args.at w.nodes.now) _ (rule-not (source_of w) w.nodes.now c.args.at c.in_err-rule.ensures)
 
-pub optional_fault-needs-requires : goal.optional_fault-needs-requires
-unfolding same_kind
-optional_fault-needs-requires c = refl
-
-pub optional_fault-gives-requires : goal.optional_fault-gives-requires
-unfolding same_kind
-optional_fault-gives-requires c = refl
-
 pub returns : goal.returns
 returns c =
     let w = c.args.self in let s = source_of w in let l = look_of s in let text = w.text.now in let at = c.args.at in let k = c.in_ok-rule.rule in let n = length w.tokens.now in
@@ -39,7 +28,7 @@ returns c =
     (ap (λ (x : Written). scope_of x names lists) (sym v) ∙ d.ensures.scope ∙ ap (head_scope empty) c.params.ensures.params)
     (c.named_twice-twice.ensures ∙ ap (λ (t : Token). least (cond (is_some (Scopes.rule_in text (rules_to s at w.nodes.now) t)) (t.place ∷ []) [])) c.token.ensures)
     (d.ensures.value ∙ ap (λ (x : Written). least (head_faults x.text.now empty ps)) v ∙ ap (λ qs. least (head_faults text empty qs)) c.params.ensures.params)
-    (c.optional_fault-needs.ensures ∙ ap (λ xs. least (condition_faults text (tokens_of w xs) (optional_at n l Needs k.needs))) c.as_slice.ensures)
-    (c.optional_fault-gives.ensures ∙ ap (λ xs. least (condition_faults text (tokens_of w xs) (optional_at n l Gives k.gives))) c.as_slice-2.ensures)
+    (c.conditions_fault-needs.ensures ∙ ap₂ (λ xs cs. least (condition_faults text (tokens_of w xs) cs)) c.as_slice.ensures c.optional.ensures.conditions)
+    (c.conditions_fault-gives.ensures ∙ ap₂ (λ xs cs. least (condition_faults text (tokens_of w xs) cs)) c.as_slice-2.ensures c.optional-2.ensures.conditions)
     (c.expr_fault-body.ensures.told ∙ ap (λ xs. least (expr_at w xs at k.body names)) c.as_slice-3.ensures)
     c.earlier.ensures c.earlier-2.ensures c.earlier-3.ensures c.earlier-4.ensures

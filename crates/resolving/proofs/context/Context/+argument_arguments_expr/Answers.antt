@@ -1,4 +1,4 @@
--- Each return is one way through the written tree: its parts in the tables, then its node.
+-- Each return is one way through the written tree: its parts in the tables, then its node. Each begins with names for the parts of its own goal, which has a type of its own.
 use Rattle.std.specs.Prelude.{is_ok}
 use Rattle.std.proofs.Common.{◌≡◌, ◌+◌, ◌<◌, [], ◌∷◌, length, take, Some, None, sym, refl, ap, ◌∙◌, subst, ap₂, inl, inr, arith}
 use Rattle.std.proofs.lemmas.List.{length_push, take_at}
@@ -11,6 +11,7 @@ use Rattle.grammar.specs.Weights.{expr_weight, args_weight, conditions_weight}
 use Rattle.pile.specs.Entries.{entries, room}
 use Rattle.naming.specs.Reaches.{tokens_of, scope_of, sheet_of}
 use Rattle.naming.specs.Scopes.{Scope, slot_in, naming}
+use Rattle.naming.specs.Sides.{conditions_left}
 use Rattle.naming.specs.Sources.{source_of, rules_of}
 use Rattle.naming.proofs.Grown.{args_more, args_none}
 use Rattle.naming.proofs.Scoping.{name-pushed}
@@ -385,16 +386,17 @@ expr-expr-claimed-requires t c =
     let R0 = roomy-is _ _ (columns_of c.args.tables.now) c.requires.roomy is in
     (omega (arith, c.decreases, c.in-Some.ensures.below), (omega (arith, c.requires.names, c.in-Some.ensures.below), roomy-less R0 (omega arith)))
 
-pub expr-conditions_at-listed-requires : goal.expr-conditions_at-listed-requires
+pub expr-conditions-conditions-requires : goal.expr-conditions-conditions-requires
 unfolding expr_weight
-expr-conditions_at-listed-requires t c =
+expr-conditions-conditions-requires t c =
     let w = c.args.self.now.sheet in let s = source_of w in let ns = w.nodes.now in let S = sheet_of w in let at = c.args.at in let ls = c.args.self.now.lists.now in let xs = entries c.args.names.now in
     let cs = (conditions_at (length w.tokens.now) (look_of s) c.in-Claim.conditions).value in
     let is : raw_at s c.args.top ns at ≡ Raw.claim (look_of s c.in-Claim.keyword) (raw_at s at ns c.in-Claim.inner) cs = raw-is s c.args.top ns at _ (ap Some (sym c.in-Claim.is) ∙ c.in-Some.ensures.read) in
     let R0 = roomy-is _ _ (columns_of c.args.tables.now) c.requires.roomy is in
     let R1 = roomy_after {u = 1 + conditions_weight cs} R0 c.expr-claimed.ensures.made (omega arith) in
     let a = R1.conditions in let b = R1.items in
-    record { conditions = omega arith; items = omega arith }
+    let e = ap conditions_weight c.conditions.ensures.conditions in
+    record { sheet = c.conditions.ensures.sheet; conditions = omega arith; items = omega arith }
 
 pub expr-add-requires-in-Claim : goal.expr-add-requires-in-Claim
 unfolding expr_weight
@@ -404,7 +406,7 @@ expr-add-requires-in-Claim t c =
     let is : raw_at s c.args.top ns at ≡ Raw.claim (look_of s c.in-Claim.keyword) (raw_at s at ns c.in-Claim.inner) cs = raw-is s c.args.top ns at _ (ap Some (sym c.in-Claim.is) ∙ c.in-Some.ensures.read) in
     let R0 = roomy-is _ _ (columns_of c.args.tables.now) c.requires.roomy is in
     let R1 = roomy_after {u = 1 + conditions_weight cs} R0 c.expr-claimed.ensures.made (omega arith) in
-    let l = c.conditions_at-listed in
+    let l = c.conditions-conditions in
     let same = ap (λ (p : Columns). p.nodes) l.ensures.others.rest in
     let r = R1.nodes in omega (arith, ap (λ (d : Column Resolved). length d.entries) same, ap (λ (d : Column Resolved). d.room) same)
 
@@ -412,13 +414,15 @@ pub expr-returns-in-Claim : goal.expr-returns-in-Claim
 expr-returns-in-Claim t c =
     let w = c.args.self.now.sheet in let s = source_of w in let ns = w.nodes.now in let S = sheet_of w in let at = c.args.at in let ls = c.args.self.now.lists.now in let xs = entries c.args.names.now in
     let cs = (conditions_at (length w.tokens.now) (look_of s) c.in-Claim.conditions).value in
-    let is : raw_at s c.args.top ns at ≡ Raw.claim (look_of s c.in-Claim.keyword) (raw_at s at ns c.in-Claim.inner) cs = raw-is s c.args.top ns at _ (ap Some (sym c.in-Claim.is) ∙ c.in-Some.ensures.read) in let A = c.add-in-Claim in let m = c.expr-claimed in let l = c.conditions_at-listed in
+    let is : raw_at s c.args.top ns at ≡ Raw.claim (look_of s c.in-Claim.keyword) (raw_at s at ns c.in-Claim.inner) cs = raw-is s c.args.top ns at _ (ap Some (sym c.in-Claim.is) ∙ c.in-Some.ensures.read) in let A = c.add-in-Claim in let m = c.expr-claimed in let l = c.conditions-conditions in
     let F = conditions_of w.text.now (scope_of w xs ls) cs in
-    let listing = subst (λ zs. Listing (conditions_of w.text.now (scope_of w zs []) cs) (columns_of m.new.tables).conditions.entries (columns_of l.new.tables).conditions.entries (columns_of m.new.tables).items.entries (columns_of l.new.tables).items.entries) (c.as_slice-in-Claim.ensures ∙ m.ensures.names.0) l.ensures.listing in
+    let e = c.conditions.ensures.conditions in
+    let listing = subst (λ ds. Listing (conditions_of w.text.now (scope_of w xs []) ds) (columns_of m.new.tables).conditions.entries (columns_of l.new.tables).conditions.entries (columns_of m.new.tables).items.entries (columns_of l.new.tables).items.entries) e
+    (subst (λ zs. Listing (conditions_of w.text.now (scope_of w zs []) (conditions_left c.conditions.result)) (columns_of m.new.tables).conditions.entries (columns_of l.new.tables).conditions.entries (columns_of m.new.tables).items.entries (columns_of l.new.tables).items.entries) (c.as_slice-in-Claim.ensures ∙ m.ensures.names.0) l.ensures.listing) in
     record {
       made = made-is S (scope_of w xs ls) _ _ _ _ _ _
-          (claim-made S (scope_of w xs ls) (look_of s c.in-Claim.keyword) (raw_at s at ns c.in-Claim.inner) cs _ _ _ _ (columns_of c.args.tables.now) (columns_of c.expr-claimed.new.tables) (columns_of l.new.tables) _ m.ensures.made
-          (made-listed F (conditions_weight cs) _ _ (columns_of c.expr-claimed.new.tables) (columns_of l.new.tables) listing l.ensures.stretch.0 l.ensures.stretch.1 (listed-few w.text.now (scope_of w xs ls) cs) l.ensures.size l.ensures.others)
+          (claim-made S (scope_of w xs ls) (look_of s c.in-Claim.keyword) (raw_at s at ns c.in-Claim.inner) cs _ _ _ (columns_of c.args.tables.now) (columns_of c.expr-claimed.new.tables) (columns_of l.new.tables) _ m.ensures.made
+          (made-listed F (conditions_weight cs) _ _ (columns_of c.expr-claimed.new.tables) (columns_of l.new.tables) listing l.ensures.stretch.0 l.ensures.stretch.1 (listed-few w.text.now (scope_of w xs ls) cs) (omega (arith, l.ensures.size, ap conditions_weight e)) l.ensures.others)
           c.place-place-in-Claim.ensures A.ensures.held)
           is A.ensures.position;
       names = (m.ensures.names.0, m.ensures.names.1);

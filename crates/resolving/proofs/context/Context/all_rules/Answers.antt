@@ -1,5 +1,5 @@
 use Rattle.std.specs.Prelude.{is_ok}
-use Rattle.std.proofs.Common.{◌≡◌, ◌+◌, [], ◌∷◌, ◌++◌, length, sym, refl, ap, ◌∙◌, subst, arith}
+use Rattle.std.proofs.Common.{◌≡◌, ◌+◌, [], ◌∷◌, ◌++◌, length, sym, refl, ap, ◌∙◌, subst, arith, lt-ltb}
 use Rattle.std.proofs.lemmas.List.Sums.{sum_by_push}
 use Rattle.grammar.specs.Trees.{rules_to}
 use Rattle.grammar.specs.Weights.{rule_weight, weight_of}
@@ -8,10 +8,12 @@ use Rattle.naming.specs.Sources.{source_of}
 use Rattle.naming.proofs.Grown.{rule-here, rule-not}
 use Rattle.records.specs.declared.entry.Entry.{Entry}
 use Rattle.records.specs.Columns.{Column}
+use Rattle.records.specs.Kept.{entry_laws}
+use Rattle.records.proofs.Lawful.{taken}
 use Rattle.records.specs.Laying.{columns_of}
 use Rattle.resolving.specs.Ruling.{SameRooms}
 use Rattle.resolving.specs.Ruling.{rule_by}
-use Rattle.resolving.proofs.Ruling.{rooms_none, rooms_turn, entry_taken, rules-none, rules-turn, rules-in, rules-zero, rules-next, rules-same, weight-front}
+use Rattle.resolving.proofs.Ruling.{rooms_none, rooms_turn, rules-none, rules-turn, rules-in, rules-zero, rules-next, rules-same, weight-front}
 use Rattle.resolving.proofs.context.Context.all_rules.Goals as goal
 use Rattle.resolving.proofs.context.Context.all_rules.Goals.{in-Some, in_default}
 
@@ -38,6 +40,15 @@ rule-entry-requires c =
       params = omega (arith, m.params, a.params, r.params);
     }
 
+pub unwrap-requires : goal.unwrap-requires
+unwrap-requires c =
+    let w = c.args.self.now.sheet in let s = source_of w in let ns = w.nodes.now in let at = c.loop-at.at in let i = c.loop-at.invariant in let k = c.in-Some.ruled in
+    let here : rules_to s (at + 1) ns ≡ rules_to s at ns ++ rule_by w at k ∷ [] = rules-next s ns at ∙ ap (λ xs. rules_to s at ns ++ xs) (rule-here s ns at k c.in-Some.ensures) in
+    let h = ap weight_of here ∙ sum_by_push rule_weight (rules_to s at ns) (rule_by w at k) in
+    let f = weight-front s ns (at + 1) (length ns) (omega (arith, c.loop-at-test.true)) in
+    let same = c.rule-entry.ensures.made.others.1 in
+    c.push.ensures.value ∙ lt-ltb _ _ (omega (arith, i.0.rules, c.requires.ample.rules, i.1.entries, ap (λ (c : Column Entry). length c.entries) same, ap (λ (c : Column Entry). c.room) same))
+
 pub loop-at-preserved : goal.loop-at-preserved
 loop-at-preserved c =
     let w = c.args.self.now.sheet in let s = source_of w in let ns = w.nodes.now in let at = c.loop-at.at in let i = c.loop-at.invariant in
@@ -49,7 +60,7 @@ loop-at-preserved c =
           let f = weight-front s ns (at + 1) (length ns) (omega (arith, c.loop-at-test.true)) in
           let m = r.ensures in
           let same = m.made.others.1 in
-          let p = entry_taken (columns_of r.new.tables) (columns_of q.new.self) r.result (is_ok q.result) q.ensures.value
+          let p = taken entry_laws (columns_of r.new.tables) (columns_of q.new.self) r.result (is_ok q.result) q.ensures.value
           (omega (arith, i.0.rules, c.requires.ample.rules, i.1.entries, ap (λ (c : Column Entry). length c.entries) same, ap (λ (c : Column Entry). c.room) same)) q.ensures.held in
           let z = ap columns_of v.tables-is ∙ p in (
             rules-in (sheet_of w) _ _ _ _

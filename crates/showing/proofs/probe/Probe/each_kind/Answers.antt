@@ -1,4 +1,4 @@
-use Rattle.std.proofs.Common.{◌+◌, ◌∙◌}
+use Rattle.std.proofs.Common.{◌+◌, length, ◌∙◌}
 use Rattle.std.proofs.lemmas.List.{length-set}
 use Rattle.letters.specs.Every.{kinds}
 use Rattle.grammar.specs.Parsers.{look_in}
@@ -13,6 +13,6 @@ loop-kind-preserved c =
     let p = c.args.self.now in (
       length-set c.loop-kind.flags c.from.result c.goes_past.result ∙ c.loop-kind.invariant.0,
       kept_on c.loop-kind.invariant.1 c.goes_past.ensures.kept,
-      one_more (λ b k. Tells b (look_in (probed (front p) p.place k) (p.place + 1)) p.at) c.loop-kind.flags c.loop-kind.kind-index c.from.result c.goes_past.result
+      one_more (λ b k. Tells b (look_in (probed (front p) p.place k) (p.place + 1)) (length (front p))) c.loop-kind.flags c.loop-kind.kind-index c.from.result c.goes_past.result
           c.loop-kind.invariant.0 (c.from.ensures ∙ c.number.ensures) c.loop-kind.invariant.2 (kept_tells _ _ c.loop-kind.invariant.1 c.goes_past.ensures.told),
     )

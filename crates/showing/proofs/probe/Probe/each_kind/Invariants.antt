@@ -10,4 +10,4 @@ abbrev pub invariant-loop-kind : goal.invariant-loop-kind
 invariant-loop-kind l =
     (length l.flags ≡ 28)
     × Kept l.fn.self l.self
-    × ((k : Kind) → number k < l.kind-index → Tells (get_or l.flags (number k) false) (look_in (probed (front l.fn.self) l.fn.self.place k) (l.fn.self.place + 1)) l.fn.self.at)
+    × ((k : Kind) → number k < l.kind-index → Tells (get_or l.flags (number k) false) (look_in (probed (front l.fn.self) l.fn.self.place k) (l.fn.self.place + 1)) (length (front l.fn.self)))

@@ -1,6 +1,6 @@
 use Rattle.std.proofs.Common.{refl}
 use Rattle.language.specs.Terms.{constant, each}
-use Rattle.terms.specs.Narrow.{all_within}
+use Rattle.ints.specs.Tests.{all_within}
 use Rattle.terms.proofs.Order.{in-turn}
 use Rattle.terms.proofs.total.Total.zero.Goals as goal
 

@@ -1,38 +1,30 @@
-use Rattle.std.proofs.Common.{◌≡◌, ◌+◌, ◌<◌, true, length, w32, rules, sym, ap, ◌∙◌, subst, arith}
+use Rattle.std.proofs.Common.{◌≡◌, true, w32, rules, sym, ap, ◌∙◌, subst}
 use Rattle.std.proofs.lemmas.Int.{to_z-of_z}
-use Rattle.language.specs.Terms.{fits_term, plus, scaled}
+use Rattle.language.specs.Terms.{fits_term}
 use Rattle.records.specs.Laying.{columns_of}
-use Rattle.records.specs.Tables.{atom_of, item_of, side_in}
+use Rattle.records.specs.Leaving.{left_of}
+use Rattle.records.specs.Tables.{atom_of, side_in}
 use Rattle.terms.specs.declared.total.Total.{Total}
-use Rattle.terms.specs.Totals.{sum_of, side_from, seen, taken}
-use Rattle.walking.proofs.Siding.{side-step, side-none, item-near, atom-fits, from-item, from-none, one-counted, one-summed, no-item}
+use Rattle.terms.specs.Totals.{seen, taken}
+use Rattle.walking.proofs.Siding.{Adding, atom-fits, adding_none, adding_turn, adding_end}
 use Rattle.walking.proofs.conditions.Conditions.side_total.Goals as goal
-use Rattle.walking.proofs.conditions.Conditions.side_total.Goals.{in-Some, in_default}
 
-pub loop-at-preserved : goal.loop-at-preserved
-loop-at-preserved c =
-    let self = c.args.self in let ts = self.terms.names.now in let r = self.terms.outcome.now in let items = (columns_of self.tables.now).items.entries in let to = c.args.side.to in let at = c.loop-at.at in let i = c.loop-at.invariant in
-    let below : at < length items = omega (arith, c.loop-at-test.true, c.requires) in
-    elim c.match-get.branch [
-      | in-Some w ↦
-          let x = w.in-Some.item in
-          let e = sym w.in-Some.ensures in
-          let t = c.loop-at.total in let u = w.of-term.result in
-          let few : t.count < 16384 = omega (arith, i.0, below, self.sound.items.few) in
-          let fine = item-near items at x self.sound.items e in
-          let fits : fits_term u ≡ true = ap fits_term w.of-term.ensures ∙ atom-fits ts r self.terms.names_fit self.terms.outcome_fits (atom_of x.atom) in
-          let took = subst (λ k. seen w.add.result ≡ taken t k u) (to_z-of_z w32 x.factor (search rules)) w.add.ensures in
-          let is = w.total-is ∙ w.unwrap_or-total.ensures in
-          let n = ap (λ (z : Total). z.count) is ∙ one-counted t x.factor u few fine fits w.add.result took in
-          let s = ap (λ (z : Total). sum_of z) is ∙ one-summed t x.factor u few fine fits w.add.result took in (
-            omega (arith, n, i.0, c.loop-at.auto.at),
-            i.1 ∙ ap (side_from ts r (sum_of t)) (side-step items at to x c.loop-at-test.true e) ∙ from-item ts r (sum_of t) (item_of x) (side_in items (at + 1) to)
-                ∙ ap (λ z. side_from ts r z (side_in items (at + 1) to)) (ap (λ z. plus (scaled x.factor z) (sum_of t)) (sym w.of-term.ensures) ∙ sym s),
-          )
-      | in_default w ↦ absurd (no-item items at below (sym (sym w.in_default.is ∙ c.get.ensures)))
-    ]
+pub loop-item-init : goal.loop-item-init
+loop-item-init c =
+    let self = c.args.self in let side = c.args.side in let z = c.zero-total in
+    adding_none self.terms.names.now self.terms.outcome.now (columns_of self.tables.now).items.entries _ side.from side.to z.result
+    (ap (left_of (λ c. c.items)) c.into_iter-item-iterator.ensures.into_iter_gives ∙ c.entries_of-item-items.ensures) self.sound.items z.ensures.count z.ensures.sum
+
+pub loop-item-preserved : goal.loop-item-preserved
+loop-item-preserved c =
+    let self = c.args.self in let ts = self.terms.names.now in let r = self.terms.outcome.now in let side = side_in (columns_of self.tables.now).items.entries c.args.side.from c.args.side.to in
+    let x = c.in-Some.item in let t = c.loop-item.total in let u = c.of-term.result in
+    let fits : fits_term u ≡ true = ap fits_term c.of-term.ensures ∙ atom-fits ts r self.terms.names_fit self.terms.outcome_fits (atom_of x.atom) in
+    let took = subst (λ k. seen c.add.result ≡ taken t k u) (to_z-of_z w32 x.factor (search rules)) c.add.ensures in
+    subst (λ (t : Total). Adding ts r side (left_of (λ c. c.items) c.next.new.self) t) (sym c.unwrap_or-total.ensures)
+    (adding_turn ts r side _ x _ t u c.add.result c.in-Some.ensures.steps fits c.of-term.ensures took c.loop-item.invariant)
 
 pub returns : goal.returns
 returns c =
-    let ts = c.args.self.terms.names.now in let r = c.args.self.terms.outcome.now in let items = (columns_of c.args.self.tables.now).items.entries in let t = c.loop-at.total in let i = c.loop-at.invariant in
-    sym (from-none ts r (sum_of t)) ∙ sym (ap (side_from ts r (sum_of t)) (side-none items c.loop-at.at c.args.side.to c.loop-at-test.false)) ∙ sym i.1 ∙ c.zero-total.ensures.turn.side ts r (side_in items c.args.side.from c.args.side.to)
+    let self = c.args.self in let ts = self.terms.names.now in let r = self.terms.outcome.now in let side = side_in (columns_of self.tables.now).items.entries c.args.side.from c.args.side.to in
+    sym (adding_end ts r side _ c.loop-item.total c.in-None.ensures.steps.0 c.loop-item.invariant) ∙ c.zero-total.ensures.turn.side ts r side

@@ -3,7 +3,7 @@ use Rattle.rows.specs.declared.row.Row.{Row}
 use Rattle.language.specs.declared.refusal.Refusal.{Refusal}
 use Rattle.language.specs.Walking.{owe_all}
 use Rattle.records.specs.Columns.{Columns}
-use Rattle.records.specs.Laying.{columns_of}
+use Rattle.records.specs.Laying.{columns_of, owed_of}
 use Rattle.terms.specs.Listed.{list_of}
 use Rattle.walking.specs.Owing.{Pays, Breaks, Paid}
 use Rattle.walking.specs.Sides.{RowsAt, rows_in}
@@ -12,7 +12,7 @@ use Rattle.walking.proofs.Knowings.{refused}
 use Rattle.walking.proofs.debts.Debts.owe_conditions.Goals as goal
 
 pub loop-at-init : goal.loop-at-init
-loop-at-init c = let a = c.args in record { lender = refl; facts = refl; going = going_none a.place a.self.now.facts.now (rows_in (columns_of a.self.now.tables.now) a.terms.names.now a.terms.outcome.now a.listed.from a.listed.to) a.self.now.tables.now }
+loop-at-init c = let a = c.args in record { kept = record { lender = refl; facts = refl }; going = going_none a.place a.self.now.facts.now (rows_in (columns_of a.self.now.tables.now) a.terms.names.now a.terms.outcome.now a.listed.from a.listed.to) a.self.now.tables.now }
 
 pub returns-in_err-owe_rows-clause-paid : goal.returns-in_err-owe_rows-clause-paid
 returns-in_err-owe_rows-clause-paid c =
@@ -21,11 +21,11 @@ returns-in_err-owe_rows-clause-paid c =
     let g = c.loop-at.invariant.going in
     let rows = c.rows_at-rows.result in
     let at : RowsAt rows ts r p.items.entries p.conditions.entries c.loop-at.at = subst (λ (q : Columns). RowsAt rows ts r q.items.entries q.conditions.entries c.loop-at.at) g.paid.columns c.rows_at-rows.ensures in
-    let whole = owe_all a.place fs t.owed (rows_in p ts r a.listed.from a.listed.to) in
+    let whole = owe_all a.place fs (owed_of t) (rows_in p ts r a.listed.from a.listed.to) in
     let here = rows-here p ts r rows c.loop-at.at a.listed.to c.loop-at-test.true c.requires.within at in
     subst (λ (x : Result (Unit {0}) Refusal). Paid x whole t v) (sym is)
     (going_break a.place fs whole e.field-0.0 (list_of rows) (rows_in p ts r (c.loop-at.at + 1) a.listed.to) t u v (subst (λ (xs : List (Option Row)). Going a.place fs whole xs t u) here g)
-    (subst (λ xs. Breaks e.field-0.0 (owe_all a.place xs u.owed (list_of rows)).notes u v) c.loop-at.invariant.facts e.ensures.paid))
+    (subst (λ xs. Breaks e.field-0.0 (owe_all a.place xs (owed_of u) (list_of rows)).notes u v) c.loop-at.invariant.kept.facts e.ensures.paid))
 
 pub loop-at-preserved : goal.loop-at-preserved
 loop-at-preserved c =
@@ -33,17 +33,16 @@ loop-at-preserved c =
     let g = c.loop-at.invariant.going in
     let rows = c.rows_at-rows.result in
     let at : RowsAt rows ts r p.items.entries p.conditions.entries c.loop-at.at = subst (λ (q : Columns). RowsAt rows ts r q.items.entries q.conditions.entries c.loop-at.at) g.paid.columns c.rows_at-rows.ensures in
-    let whole = owe_all a.place fs t.owed (rows_in p ts r a.listed.from a.listed.to) in
+    let whole = owe_all a.place fs (owed_of t) (rows_in p ts r a.listed.from a.listed.to) in
     let here = rows-here p ts r rows c.loop-at.at a.listed.to c.loop-at-test.true c.requires.within at in
     record {
       going = going_turn a.place fs whole (list_of rows) (rows_in p ts r (c.loop-at.at + 1) a.listed.to) t u v (subst (λ (xs : List (Option Row)). Going a.place fs whole xs t u) here g)
-          (subst (λ xs. Pays (owe_all a.place xs u.owed (list_of rows)) u v) c.loop-at.invariant.facts c.in_ok-owe_rows.ensures.paid);
-      lender = c.owe_rows.ensures.lender ∙ c.loop-at.invariant.lender;
-      facts = c.owe_rows.ensures.facts ∙ c.loop-at.invariant.facts;
+          (subst (λ xs. Pays (owe_all a.place xs (owed_of u) (list_of rows)) u v) c.loop-at.invariant.kept.facts c.in_ok-owe_rows.ensures.paid);
+      kept = record { lender = c.owe_rows.ensures.kept.lender ∙ c.loop-at.invariant.kept.lender; facts = c.owe_rows.ensures.kept.facts ∙ c.loop-at.invariant.kept.facts };
     }
 
 pub returns-clause-paid : goal.returns-clause-paid
 returns-clause-paid c =
     let a = c.args in let t = a.self.now.tables.now in let u = c.loop-at.self.tables.now in let fs = a.self.now.facts.now in let p = columns_of t in
-    let whole = owe_all a.place fs t.owed (rows_in p a.terms.names.now a.terms.outcome.now a.listed.from a.listed.to) in
+    let whole = owe_all a.place fs (owed_of t) (rows_in p a.terms.names.now a.terms.outcome.now a.listed.from a.listed.to) in
     going-end a.place fs whole t u (subst (λ (xs : List (Option Row)). Going a.place fs whole xs t u) (rows-none p a.terms.names.now a.terms.outcome.now c.loop-at.at a.listed.to c.loop-at-test.false) c.loop-at.invariant.going)

@@ -1,58 +1,56 @@
-use Rattle.std.proofs.Common.{◌≡◌, ◌+◌, get_or, Err, Ok, List, Result, sym, refl, ◌∙◌, subst, ap₂, arith}
-use Rattle.std.proofs.lemmas.Option.{slice_get-get_or}
+use Rattle.std.proofs.Common.{◌≡◌, Err, Ok, map, List, Result, sym, refl, ap, ◌∙◌, subst, ap₂}
 use Rattle.language.specs.declared.refusal.Refusal.{Refusal}
 use Rattle.language.specs.Comparing.{condition_rows}
-use Rattle.language.specs.Tree as Tree
 use Rattle.language.specs.Walking.{Known, assume, assume_all}
 use Rattle.pile.specs.Entries.{entries}
-use Rattle.records.specs.Columns.{no_condition}
+use Rattle.records.specs.declared.condition.Condition.{Condition}
 use Rattle.records.specs.Laying.{columns_of}
+use Rattle.records.specs.Leaving.{left_of}
 use Rattle.records.specs.Tables.{condition_in, conditions_in}
 use Rattle.terms.specs.Listed.{list_of}
 use Rattle.walking.specs.Knowing.{Took, placed}
-use Rattle.walking.proofs.Taking.{Taking, taking_none, taking_turn, taking_break, taking-end, conditions-step, conditions-none}
+use Rattle.walking.proofs.Taking.{Taking, taking_all, taking_turn, taking_break, taking-end, placed-at}
 use Rattle.walking.proofs.Knowings.{refused}
 use Rattle.walking.proofs.facts.Facts.assume_conditions.Goals as goal
 
-pub loop-at-init : goal.loop-at-init
-loop-at-init c =
+pub loop-condition-init : goal.loop-condition-init
+loop-condition-init c =
     let a = c.args in let p = columns_of a.conditions.tables.now in
-    record { lender = refl; room = refl; taking = taking_none (placed a.place) a.conditions.terms.names.now a.conditions.terms.outcome.now (conditions_in p.items.entries p.conditions.entries a.listed.from a.listed.to) (entries a.self.now.pile.now) }
+    let e = ap (left_of (λ c. c.conditions)) c.into_iter-condition-iterator.ensures.into_iter_gives ∙ c.entries_of-condition-items.ensures in
+    record { kept = record { lender = refl; room = refl }; taking = taking_all (placed a.place) a.conditions.terms.names.now a.conditions.terms.outcome.now p _ a.listed.from a.listed.to (entries a.self.now.pile.now) e }
+
+pub loop-condition-preserved : goal.loop-condition-preserved
+loop-condition-preserved c =
+    let a = c.args in let p = columns_of a.conditions.tables.now in let ts = a.conditions.terms.names.now in let r = a.conditions.terms.outcome.now in let f = placed a.place in
+    let d = condition_in p.items.entries c.in-Some.condition in
+    let before = entries a.self.now.pile.now in let now = entries c.loop-condition.self.pile.now in let after = entries c.assume.new.self.pile.now in
+    let k : assume c.unwrap_or-place.result now (list_of c.rows_of.result) ≡ assume (f d) now (condition_rows ts r d) = ap₂ (λ n xs. assume n now xs) (c.unwrap_or-place.ensures ∙ placed-at a.place d) c.rows_of.ensures in
+    let whole = assume_all f ts r before (conditions_in p.items.entries p.conditions.entries a.listed.from a.listed.to) in
+    let left = left_of (λ c. c.conditions) c.next.new.self in record {
+      taking = taking_turn f ts r whole d (map (condition_in p.items.entries) left) before now after
+          (subst (λ (cs : List Condition). Taking f ts r whole (map (condition_in p.items.entries) cs) before now) c.in-Some.ensures.steps c.loop-condition.invariant.taking)
+          (subst (λ (x : Known). Took (Ok tt) x now after) k c.in_ok-assume.ensures.took);
+      kept = record { lender = c.assume.ensures.kept.lender ∙ c.loop-condition.invariant.kept.lender; room = c.assume.ensures.kept.room ∙ c.loop-condition.invariant.kept.room };
+    }
 
 pub returns-in_err-assume-clause-took : goal.returns-in_err-assume-clause-took
 returns-in_err-assume-clause-took c =
-    let a = c.args in let p = columns_of a.conditions.tables.now in let ts = a.conditions.terms.names.now in let r = a.conditions.terms.outcome.now in let at = c.loop-at.at in let f = placed a.place in let e = c.in_err-assume in
+    let a = c.args in let p = columns_of a.conditions.tables.now in let ts = a.conditions.terms.names.now in let r = a.conditions.terms.outcome.now in let f = placed a.place in let e = c.in_err-assume in
     let is = refused c.from_residual.result e.field-0.0 c.from_residual.ensures.1 in
-    let d = condition_in p.items.entries (get_or p.conditions.entries at no_condition) in
-    let s = slice_get-get_or p.conditions.entries at no_condition (omega (arith, c.loop-at-test.true, c.requires)) in
-    let now = entries c.loop-at.self.pile.now in let after = entries c.assume.new.self.pile.now in
-    let k : assume c.place_of.result now (list_of c.rows_at.result) ≡ assume (f d) now (condition_rows ts r d) = ap₂ (λ n xs. assume n now xs) (c.place_of.ensures _ p.items.entries s) (c.rows_at.ensures _ s) in
-    let whole = assume_all f ts r (entries a.self.now.pile.now) (conditions_in p.items.entries p.conditions.entries a.listed.from a.listed.to) in
-    let rest = conditions_in p.items.entries p.conditions.entries (at + 1) a.listed.to in
-    subst (λ (x : Result (Unit {0}) Refusal). Took x whole (entries a.self.now.pile.now) after) (sym is)
-    (taking_break f ts r whole e.field-0.0 d rest (entries a.self.now.pile.now) now after
-    (subst (λ (cs : List Tree.Condition). Taking f ts r whole cs (entries a.self.now.pile.now) now) (conditions-step p at a.listed.to c.loop-at-test.true c.requires) c.loop-at.invariant.taking)
+    let d = condition_in p.items.entries c.in-Some.condition in
+    let before = entries a.self.now.pile.now in let now = entries c.loop-condition.self.pile.now in let after = entries c.assume.new.self.pile.now in
+    let k : assume c.unwrap_or-place.result now (list_of c.rows_of.result) ≡ assume (f d) now (condition_rows ts r d) = ap₂ (λ n xs. assume n now xs) (c.unwrap_or-place.ensures ∙ placed-at a.place d) c.rows_of.ensures in
+    let whole = assume_all f ts r before (conditions_in p.items.entries p.conditions.entries a.listed.from a.listed.to) in
+    let left = left_of (λ c. c.conditions) c.next.new.self in
+    subst (λ (x : Result (Unit {0}) Refusal). Took x whole before after) (sym is)
+    (taking_break f ts r whole e.field-0.0 d (map (condition_in p.items.entries) left) before now after
+    (subst (λ (cs : List Condition). Taking f ts r whole (map (condition_in p.items.entries) cs) before now) c.in-Some.ensures.steps c.loop-condition.invariant.taking)
     (subst (λ (x : Known). Took (Err e.field-0.0) x now after) k e.ensures.took))
-
-pub loop-at-preserved : goal.loop-at-preserved
-loop-at-preserved c =
-    let a = c.args in let p = columns_of a.conditions.tables.now in let ts = a.conditions.terms.names.now in let r = a.conditions.terms.outcome.now in let at = c.loop-at.at in let f = placed a.place in
-    let d = condition_in p.items.entries (get_or p.conditions.entries at no_condition) in
-    let s = slice_get-get_or p.conditions.entries at no_condition (omega (arith, c.loop-at-test.true, c.requires)) in
-    let now = entries c.loop-at.self.pile.now in let after = entries c.assume.new.self.pile.now in
-    let k : assume c.place_of.result now (list_of c.rows_at.result) ≡ assume (f d) now (condition_rows ts r d) = ap₂ (λ n xs. assume n now xs) (c.place_of.ensures _ p.items.entries s) (c.rows_at.ensures _ s) in
-    let whole = assume_all f ts r (entries a.self.now.pile.now) (conditions_in p.items.entries p.conditions.entries a.listed.from a.listed.to) in
-    let rest = conditions_in p.items.entries p.conditions.entries (at + 1) a.listed.to in record {
-      taking = taking_turn f ts r whole d rest (entries a.self.now.pile.now) now after
-          (subst (λ (cs : List Tree.Condition). Taking f ts r whole cs (entries a.self.now.pile.now) now) (conditions-step p at a.listed.to c.loop-at-test.true c.requires) c.loop-at.invariant.taking)
-          (subst (λ (x : Known). Took (Ok tt) x now after) k c.in_ok-assume.ensures.took);
-      lender = c.assume.ensures.lender ∙ c.loop-at.invariant.lender;
-      room = c.assume.ensures.room ∙ c.loop-at.invariant.room;
-    }
 
 pub returns-clause-took : goal.returns-clause-took
 returns-clause-took c =
     let a = c.args in let p = columns_of a.conditions.tables.now in let ts = a.conditions.terms.names.now in let r = a.conditions.terms.outcome.now in let f = placed a.place in
-    let whole = assume_all f ts r (entries a.self.now.pile.now) (conditions_in p.items.entries p.conditions.entries a.listed.from a.listed.to) in
-    taking-end f ts r whole (entries a.self.now.pile.now) (entries c.loop-at.self.pile.now)
-    (subst (λ (cs : List Tree.Condition). Taking f ts r whole cs (entries a.self.now.pile.now) (entries c.loop-at.self.pile.now)) (conditions-none p c.loop-at.at a.listed.to c.loop-at-test.false) c.loop-at.invariant.taking)
+    let before = entries a.self.now.pile.now in let now = entries c.loop-condition.self.pile.now in
+    let whole = assume_all f ts r before (conditions_in p.items.entries p.conditions.entries a.listed.from a.listed.to) in
+    taking-end f ts r whole before now
+    (subst (λ (cs : List Condition). Taking f ts r whole (map (condition_in p.items.entries) cs) before now) c.in-None.ensures.steps.0 c.loop-condition.invariant.taking)
