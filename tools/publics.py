@@ -22,9 +22,9 @@ def publics(root):
         owner = ""
         for m in re.finditer(r"^(impl\b[^\n{]*|( *)pub fn .*)", text, re.M):
             if m.group(1).startswith("impl"):
-                owner = re.sub(r"<'[^>]*>", "", re.sub(r"^impl(<[^ ]*>)? ", "", m.group(1))).split(" for ")[-1].strip()
+                owner = re.sub(r"<'[^>]*>", "", re.sub(r"^impl(<[^{]*?>)? (?=[A-Z])", "", m.group(1))).split(" for ")[-1].strip()
                 continue
-            head = re.match(r" *pub fn (\w+)(?:[^{]|\{[^}]*\})*?(?=\n *\{|;)", text[m.start():])
+            head = re.match(r" *pub fn (\w+)(?:[^{]|\{[^}]*\})*?(?=\n *\{|;\n)", text[m.start():])
             words = re.sub(r"\s+", " ", head.group(0).strip()).replace("( ", "(").replace(", )", ")")
             found[crate, (owner + "::" if m.group(2) else "") + head.group(1)] = words
     return found

@@ -70,6 +70,7 @@ impl Params<'_> {
     pub fn wants_list(&mut self) -> bool
         ensures list { result ≡ is_some (length_at (left self.old) 0) }
         ensures left { left self.new ≡ drop 1 (left self.old) }
+        ensures sheet { self.new.sheet ≡ self.old.sheet }
     {
         self.next().is_some_and(|param| param.length.is_some())
     }
