@@ -82,11 +82,11 @@ unfolding all_near
 near-each f h a zero = refl
 near-each f h a (suc k) = and_from _ _ (h a) (near-each f h (a + 1) k)
 
-zero-fits : fits_term zero_term ≡ true
+pub zero-fits : fits_term zero_term ≡ true
 unfolding constant each all_near
 zero-fits = refl
 
-quantity-fits : (n : ℕ) → fits_term (quantity n) ≡ true
+pub quantity-fits : (n : ℕ) → fits_term (quantity n) ≡ true
 unfolding quantity each
 quantity-fits n = near-each (λ j. cond (eqb j n) (pos 1) (pos 0)) (λ j. go (eqb j n)) 0 16
   where
@@ -94,14 +94,14 @@ quantity-fits n = near-each (λ j. cond (eqb j n) (pos 1) (pos 0)) (λ j. go (eq
     go true = refl
     go false = refl
 
-limited-fits : (t u : Term) → limited t ≡ Some u → fits_term u ≡ true
+pub limited-fits : (t u : Term) → limited t ≡ Some u → fits_term u ≡ true
 limited-fits t u e = go (fits_term t) refl e
   where
     go : (b : Bool) → fits_term t ≡ b → cond b (Some t) None ≡ Some u → fits_term u ≡ true
     go true h e = let same : t ≡ u = cc in ap fits_term (sym same) ∙ h
     go false h e = absurd (none-some u e)
 
-worked-fits : (o : Operator) (t u v : Term) → worked o t u ≡ Some v → fits_term v ≡ true
+pub worked-fits : (o : Operator) (t u v : Term) → worked o t u ≡ Some v → fits_term v ≡ true
 unfolding worked
 worked-fits Sum t u v e = limited-fits (plus t u) v e
 worked-fits Difference t u v e = limited-fits (minus t u) v e
@@ -115,7 +115,7 @@ worked-fits Product t u v e = go (is_constant t) (is_constant u) e
 abbrev Fit : List Term → Type 0
 Fit ts = AllByRecursion (λ t. fits_term t ≡ true) ts
 
-fit_at : (ts : List Term) → Fit ts → (i : ℕ) → fits_term (term_at ts i) ≡ true
+pub fit_at : (ts : List Term) → Fit ts → (i : ℕ) → fits_term (term_at ts i) ≡ true
 fit_at [] h i = zero-fits
 fit_at (t ∷ ts) h zero = h.0
 fit_at (t ∷ ts) h (suc i) = fit_at ts h.1 i

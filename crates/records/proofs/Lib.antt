@@ -5,3 +5,7 @@ pub mod Rules
 pub mod Layings
 pub mod Lawful
 pub mod Putting
+pub mod Inverting
+pub mod Framing
+pub mod Replacing
+pub mod Asking

@@ -1,5 +1,5 @@
 -- The tables of a sheet as they lie in records: each is a column, whose entries lie four to a record.
-use Rattle.std.specs.Prelude.{ℕ, zero, suc, ◌*◌, ◌/◌, ◌%◌, List, [], ◌∷◌, ◌++◌, length, pos, None, slice_index_or}
+use Rattle.std.specs.Prelude.{ℕ, zero, suc, ◌*◌, ◌/◌, ◌%◌, List, [], ◌∷◌, ◌++◌, length, pos, None, slice_index_or, slice_set}
 use Rattle.records.specs.declared.node.Node.{Node}
 use Rattle.records.specs.declared.node.Node.TheVariants.{Blank}
 use Rattle.records.specs.declared.condition.Atom.TheVariants.{One}
@@ -91,6 +91,10 @@ fresh records lender = record {
 -- what was put on top of a column
 abbrev pub pushed : {A : Type 0} → Column A → A → Column A
 pushed c x = record { entries = c.entries ++ x ∷ []; room = c.room }
+
+-- an entry of a column is replaced; past the last nothing changes
+abbrev pub replaced : {A : Type 0} → Column A → ℕ → A → Column A
+replaced c at x = record { entries = slice_set c.entries at x; room = c.room }
 
 abbrev pub tables_by : Columns → Tables
 tables_by c = record { nodes = c.nodes.entries; conditions = c.conditions.entries; items = c.items.entries }

@@ -12,7 +12,7 @@ use Rattle.records.specs.declared.counts.Counts.{Counts}
 use Rattle.records.specs.declared.record.Record.{Record}
 use Rattle.records.specs.Columns.{Columns, no_condition, no_item, no_entry}
 use Rattle.records.specs.Tabling.{TableLaws}
-use Rattle.records.specs.Slots.{slots_put, slots_kept}
+use Rattle.records.specs.Slots.{slots_put, slots_set, slots_kept}
 
 -- columns with these entries, in so many records
 abbrev pub laid : List Node → List Condition → List Item → List Param → List Entry → ℕ → ℕ → Columns
@@ -36,6 +36,11 @@ node_laws = record {
   writes = λ r k lender d x h w.
       let new : Record = record (get_or r (k.nodes / 4) d) { nodes = set (get_or r (k.nodes / 4) d).nodes (k.nodes % 4) x } in
       same_columns r (k.nodes / 4) lender new (slots_put (λ (x : Record). x.nodes) Blank r new k.nodes x h d w refl) (slots_kept (λ (x : Record). x.conditions) no_condition r new d (k.nodes / 4) k.conditions h refl) (slots_kept (λ (x : Record). x.items) no_item r new d (k.nodes / 4) k.items h refl) (slots_kept (λ (x : Record). x.params) Number r new d (k.nodes / 4) k.params h refl) (slots_kept (λ (x : Record). x.entries) no_entry r new d (k.nodes / 4) k.entries h refl);
+  rewrites = λ r k lender d x at l h w.
+      let new : Record = record (get_or r (at / 4) d) { nodes = set (get_or r (at / 4) d).nodes (at % 4) x } in
+      same_columns r (at / 4) lender new (slots_set (λ (x : Record). x.nodes) Blank r new at k.nodes x l h d w refl) (slots_kept (λ (x : Record). x.conditions) no_condition r new d (at / 4) k.conditions h refl) (slots_kept (λ (x : Record). x.items) no_item r new d (at / 4) k.items h refl) (slots_kept (λ (x : Record). x.params) Number r new d (at / 4) k.params h refl) (slots_kept (λ (x : Record). x.entries) no_entry r new d (at / 4) k.entries h refl);
+  itself = λ c. refl;
+  beside = λ r xs. (refl, refl);
   within = λ k m w. w.nodes;
   fits = λ k m w h. record { nodes = omega arith; conditions = w.conditions; items = w.items; params = w.params; entries = w.entries };
 }
@@ -46,6 +51,11 @@ condition_laws = record {
   writes = λ r k lender d x h w.
       let new : Record = record (get_or r (k.conditions / 4) d) { conditions = set (get_or r (k.conditions / 4) d).conditions (k.conditions % 4) x } in
       same_columns r (k.conditions / 4) lender new (slots_kept (λ (x : Record). x.nodes) Blank r new d (k.conditions / 4) k.nodes h refl) (slots_put (λ (x : Record). x.conditions) no_condition r new k.conditions x h d w refl) (slots_kept (λ (x : Record). x.items) no_item r new d (k.conditions / 4) k.items h refl) (slots_kept (λ (x : Record). x.params) Number r new d (k.conditions / 4) k.params h refl) (slots_kept (λ (x : Record). x.entries) no_entry r new d (k.conditions / 4) k.entries h refl);
+  rewrites = λ r k lender d x at l h w.
+      let new : Record = record (get_or r (at / 4) d) { conditions = set (get_or r (at / 4) d).conditions (at % 4) x } in
+      same_columns r (at / 4) lender new (slots_kept (λ (x : Record). x.nodes) Blank r new d (at / 4) k.nodes h refl) (slots_set (λ (x : Record). x.conditions) no_condition r new at k.conditions x l h d w refl) (slots_kept (λ (x : Record). x.items) no_item r new d (at / 4) k.items h refl) (slots_kept (λ (x : Record). x.params) Number r new d (at / 4) k.params h refl) (slots_kept (λ (x : Record). x.entries) no_entry r new d (at / 4) k.entries h refl);
+  itself = λ c. refl;
+  beside = λ r xs. (refl, refl);
   within = λ k m w. w.conditions;
   fits = λ k m w h. record { nodes = w.nodes; conditions = omega arith; items = w.items; params = w.params; entries = w.entries };
 }
@@ -56,6 +66,11 @@ item_laws = record {
   writes = λ r k lender d x h w.
       let new : Record = record (get_or r (k.items / 4) d) { items = set (get_or r (k.items / 4) d).items (k.items % 4) x } in
       same_columns r (k.items / 4) lender new (slots_kept (λ (x : Record). x.nodes) Blank r new d (k.items / 4) k.nodes h refl) (slots_kept (λ (x : Record). x.conditions) no_condition r new d (k.items / 4) k.conditions h refl) (slots_put (λ (x : Record). x.items) no_item r new k.items x h d w refl) (slots_kept (λ (x : Record). x.params) Number r new d (k.items / 4) k.params h refl) (slots_kept (λ (x : Record). x.entries) no_entry r new d (k.items / 4) k.entries h refl);
+  rewrites = λ r k lender d x at l h w.
+      let new : Record = record (get_or r (at / 4) d) { items = set (get_or r (at / 4) d).items (at % 4) x } in
+      same_columns r (at / 4) lender new (slots_kept (λ (x : Record). x.nodes) Blank r new d (at / 4) k.nodes h refl) (slots_kept (λ (x : Record). x.conditions) no_condition r new d (at / 4) k.conditions h refl) (slots_set (λ (x : Record). x.items) no_item r new at k.items x l h d w refl) (slots_kept (λ (x : Record). x.params) Number r new d (at / 4) k.params h refl) (slots_kept (λ (x : Record). x.entries) no_entry r new d (at / 4) k.entries h refl);
+  itself = λ c. refl;
+  beside = λ r xs. (refl, refl);
   within = λ k m w. w.items;
   fits = λ k m w h. record { nodes = w.nodes; conditions = w.conditions; items = omega arith; params = w.params; entries = w.entries };
 }
@@ -66,6 +81,11 @@ param_laws = record {
   writes = λ r k lender d x h w.
       let new : Record = record (get_or r (k.params / 4) d) { params = set (get_or r (k.params / 4) d).params (k.params % 4) x } in
       same_columns r (k.params / 4) lender new (slots_kept (λ (x : Record). x.nodes) Blank r new d (k.params / 4) k.nodes h refl) (slots_kept (λ (x : Record). x.conditions) no_condition r new d (k.params / 4) k.conditions h refl) (slots_kept (λ (x : Record). x.items) no_item r new d (k.params / 4) k.items h refl) (slots_put (λ (x : Record). x.params) Number r new k.params x h d w refl) (slots_kept (λ (x : Record). x.entries) no_entry r new d (k.params / 4) k.entries h refl);
+  rewrites = λ r k lender d x at l h w.
+      let new : Record = record (get_or r (at / 4) d) { params = set (get_or r (at / 4) d).params (at % 4) x } in
+      same_columns r (at / 4) lender new (slots_kept (λ (x : Record). x.nodes) Blank r new d (at / 4) k.nodes h refl) (slots_kept (λ (x : Record). x.conditions) no_condition r new d (at / 4) k.conditions h refl) (slots_kept (λ (x : Record). x.items) no_item r new d (at / 4) k.items h refl) (slots_set (λ (x : Record). x.params) Number r new at k.params x l h d w refl) (slots_kept (λ (x : Record). x.entries) no_entry r new d (at / 4) k.entries h refl);
+  itself = λ c. refl;
+  beside = λ r xs. (refl, refl);
   within = λ k m w. w.params;
   fits = λ k m w h. record { nodes = w.nodes; conditions = w.conditions; items = w.items; params = omega arith; entries = w.entries };
 }
@@ -76,6 +96,11 @@ entry_laws = record {
   writes = λ r k lender d x h w.
       let new : Record = record (get_or r (k.entries / 4) d) { entries = set (get_or r (k.entries / 4) d).entries (k.entries % 4) x } in
       same_columns r (k.entries / 4) lender new (slots_kept (λ (x : Record). x.nodes) Blank r new d (k.entries / 4) k.nodes h refl) (slots_kept (λ (x : Record). x.conditions) no_condition r new d (k.entries / 4) k.conditions h refl) (slots_kept (λ (x : Record). x.items) no_item r new d (k.entries / 4) k.items h refl) (slots_kept (λ (x : Record). x.params) Number r new d (k.entries / 4) k.params h refl) (slots_put (λ (x : Record). x.entries) no_entry r new k.entries x h d w refl);
+  rewrites = λ r k lender d x at l h w.
+      let new : Record = record (get_or r (at / 4) d) { entries = set (get_or r (at / 4) d).entries (at % 4) x } in
+      same_columns r (at / 4) lender new (slots_kept (λ (x : Record). x.nodes) Blank r new d (at / 4) k.nodes h refl) (slots_kept (λ (x : Record). x.conditions) no_condition r new d (at / 4) k.conditions h refl) (slots_kept (λ (x : Record). x.items) no_item r new d (at / 4) k.items h refl) (slots_kept (λ (x : Record). x.params) Number r new d (at / 4) k.params h refl) (slots_set (λ (x : Record). x.entries) no_entry r new at k.entries x l h d w refl);
+  itself = λ c. refl;
+  beside = λ r xs. (refl, refl);
   within = λ k m w. w.entries;
   fits = λ k m w h. record { nodes = w.nodes; conditions = w.conditions; items = w.items; params = w.params; entries = omega arith };
 }

@@ -1,6 +1,7 @@
 pub mod Tables
 pub mod Trees
 pub mod Standing
+pub mod Sound
 pub mod Counting
 pub mod Rules
 pub mod Fours
@@ -12,3 +13,5 @@ pub mod Laying
 pub mod Owing
 pub mod Added
 pub mod Leaving
+pub mod Inverting
+pub mod Asking

@@ -3,7 +3,7 @@ use Rattle.std.proofs.Common.{◌≡◌, ◌≢◌, ℕ, zero, suc, ◌+◌, ◌
 use Rattle.std.specs.List.{slice_get}
 use Rattle.std.proofs.lemmas.Bool.{cases_eq, lt-ltb, le-ltb}
 use Rattle.std.proofs.lemmas.Option.{slice_get-get_or, slice_get_past, get_or_from_slice_get}
-use Rattle.std.proofs.lemmas.List.{get_or-set_same, get_or-set_other, get_or_default, get_or_push, append-nil, append_assoc, length_push}
+use Rattle.std.proofs.lemmas.List.{get_or-set_same, get_or-set_other, get_or_default, get_or_push, append-nil, append_assoc, length_push, set-append_left, set-append_right}
 use Rattle.std.proofs.Math.ListN.{get_or-append}
 use Rattle.records.specs.declared.record.Record.{Record}
 use Rattle.records.specs.Columns.{zero_record, slot_at, first_slots}
@@ -78,6 +78,21 @@ module _ {A : Type 0} (part : Record → List A) (none : A) where
         (λ d. ap (λ z. get_or (part z) (k % 4) none) (get_or-set_other r (at / 4) (k / 4) new zero_record d))
         (cases_eq (k / 4) (at / 4))
 
+    set-all : (n : ℕ) → at < n → first_slots part none (set r (at / 4) new) n ≡ set (first_slots part none r n) at x
+    unfolding first_slots
+    set-all zero l = let no : ⊥ = omega arith in absurd no
+    set-all (suc n) l =
+        let e = length-slots r n in
+        ⊎_elim
+        (λ q.
+        ap₂ (λ xs y. xs ++ y ∷ []) (slots-same (set r (at / 4) new) r n (λ k h. slot_other k (omega arith))) (ap (slot_at part none (set r (at / 4) new)) (sym q) ∙ slot_written)
+        ∙ ap (λ m. first_slots part none r n ++ set (slot_at part none r n ∷ []) m x) (let z : 0 ≡ at - n = omega arith in z)
+        ∙ sym (set-append_right (first_slots part none r n) (slot_at part none r n ∷ []) n at x e (omega arith)))
+        (λ d.
+        ap₂ (λ xs y. xs ++ y ∷ []) (set-all n (omega arith)) (slot_other n (λ z. d (sym z)))
+        ∙ sym (set-append_left (first_slots part none r n) (slot_at part none r n ∷ []) at x (omega arith)))
+        (cases_eq at n)
+
     pushed-all : first_slots part none (set r (at / 4) new) (suc at) ≡ first_slots part none r at ++ x ∷ []
     unfolding first_slots
     pushed-all = ap₂ (λ xs y. xs ++ y ∷ []) (slots-same (set r (at / 4) new) r at (λ k h. slot_other k (omega arith))) slot_written
@@ -87,6 +102,11 @@ module _ {A : Type 0} (part : Record → List A) (none : A) where
       let same = get_or_default r (at / 4) d zero_record within in
       ap (first_slots part none (set r (at / 4) new)) (let z : at + 1 ≡ suc at = omega arith in z)
       ∙ pushed-all r new at x within (subst (λ (z : Record). at % 4 < length (part z)) same few) (put ∙ ap (λ (z : Record). set (part z) (at % 4) x) same)
+
+  pub slots_set : (r : List Record) (new : Record) (at n : ℕ) (x : A) → at < n → at / 4 < length r → (d : Record) → at % 4 < length (part (get_or r (at / 4) d)) → part new ≡ set (part (get_or r (at / 4) d)) (at % 4) x → first_slots part none (set r (at / 4) new) n ≡ set (first_slots part none r n) at x
+  slots_set r new at n x counted within d few put =
+      let same = get_or_default r (at / 4) d zero_record within in
+      set-all r new at x within (subst (λ (z : Record). at % 4 < length (part z)) same few) (put ∙ ap (λ (z : Record). set (part z) (at % 4) x) same) n counted
 
   -- a record is written, whose part stays
   kept : (r : List Record) (new : Record) (i : ℕ) → i < length r → part new ≡ part (get_or r i zero_record) → (k : ℕ) → slot_at part none (set r i new) k ≡ slot_at part none r k

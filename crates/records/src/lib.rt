@@ -1,6 +1,7 @@
 // The tree of a sheet in flat tables: nodes, conditions, items, parameters and rules, by position.
 #![tactic(auto)]
 
+pub mod asked;
 pub mod condition;
 pub mod counts;
 pub mod entries;
@@ -12,6 +13,7 @@ pub mod record;
 pub mod stretch;
 pub mod tabled;
 
+pub use asked::{Asked, obligation, owed_at};
 pub use condition::{Atom, Condition, Item};
 pub use counts::Counts;
 pub use entries::Entries;

@@ -1,7 +1,9 @@
-ghost use Rattle.std.specs.Prelude.{◌≡◌, length, if◌then◌else◌, is_ok, nat_lt, IfOk};
+ghost use Rattle.std.specs.Prelude.{◌≡◌, List, length, if◌then◌else◌, is_ok, nat_lt, IfOk};
 ghost use Rattle.std.specs.List.{slice_get};
-ghost use Rattle.records.specs.Columns.{pushed, fresh};
-ghost use Rattle.records.specs.Laying.{columns_of, records_of};
+ghost use Rattle.records.specs.Columns.{pushed, replaced, fresh};
+ghost use Rattle.records.specs.Laying.{columns_of, records_of, owed_of};
+ghost use Rattle.records.specs.Owing.{OwesAll};
+ghost use Rattle.language.specs.Walking.{Obligation};
 
 use super::Laid;
 use crate::counts::Counts;
@@ -14,6 +16,7 @@ impl<'r> Laid<'r> {
     pub fn over(records: &'r mut [Record]) -> Laid<'r>
         ensures columns { columns_of result ≡ fresh (length records.old) records.entry.ghost_name }
         ensures records { records_of result ≡ records.old }
+        ensures owed { owed_of result ≡ 0 }
     {
         Laid {
             records,
@@ -46,6 +49,7 @@ impl<'r> Laid<'r> {
         ensures value { is_ok result ≡ nat_lt (length (E.table (columns_of self.old)).entries) (E.table (columns_of self.old)).room }
         ensures position { IfOk result (λ at. at ≡ length (E.table (columns_of self.old)).entries) }
         ensures held { columns_of self.new ≡ (if is_ok result then E.with_table (columns_of self.old) (pushed (E.table (columns_of self.old)) entry) else columns_of self.old) }
+        ensures owed { owed_of self.new ≡ owed_of self.old }
     {
         let at = E::count(&self.counts);
         if at / 4 >= self.records.len() {
@@ -55,5 +59,19 @@ impl<'r> Laid<'r> {
         entry.put(&mut records[at / 4], at % 4);
         E::set_count(&mut self.counts, at + 1);
         Ok(at)
+    }
+
+    // Puts an entry in place of the one at a position of its table. Past the last nothing changes.
+    pub fn set<E: Tabled>(&mut self, at: usize, entry: E)
+        ensures held { columns_of self.new ≡ E.with_table (columns_of self.old) (replaced (E.table (columns_of self.old)) at entry) }
+        ensures owed { owed_of self.new ≡ owed_of self.old }
+        ensures owes { (os : List Obligation) → OwesAll (records_of self.old) os → OwesAll (records_of self.new) os }
+        ensures length { length (records_of self.new) ≡ length (records_of self.old) }
+    {
+        if at >= E::count(&self.counts) {
+            return;
+        }
+        let lent = &mut *self.records;
+        entry.put(&mut lent[at / 4], at % 4);
     }
 }

@@ -4,13 +4,10 @@ ghost use Rattle.records.specs.Laying.{records_of, owed_of};
 ghost use Rattle.records.specs.Owing.{takes_one};
 
 use super::Laid;
-use crate::owed::Owed;
+use crate::owed::{Owed, ROWS_EACH};
 use language::Duty;
 use pile::Full;
 use rows::{MOST_FACTS, Row};
-
-// So many records hold the rows of an obligation, its facts and its goal as the last: they lie in lent records, so they are no list.
-const ROWS_EACH: usize = MOST_FACTS + 1;
 
 impl<'r> Laid<'r> {
     // How many obligations there are.
