@@ -1,6 +1,8 @@
 -- Rows that are owed one after another, with others still to come.
-use Rattle.std.proofs.Common.{◌≡◌, ℕ, ◌+◌, ◌-◌, ◌<◌, ◌≤◌, List, [], ◌∷◌, ◌++◌, map, length, take, drop, get_or, Some, Option, sym, refl, ap, ◌∙◌, subst, ap₂, arith}
-use Rattle.std.proofs.lemmas.List.{append-nil, append_assoc}
+use Rattle.std.proofs.Common.{◌≡◌, ℕ, ◌+◌, ◌-◌, ◌<◌, ◌≤◌, List, [], ◌∷◌, ◌++◌, map, length, min, take, drop, get_or, Some, Option, sym, refl, ap, ◌∙◌, subst, ap₂, inl, inr, arith}
+use Rattle.std.proofs.Math.Nat.{min-eq_left, min-eq_right}
+use Rattle.std.proofs.lemmas.Bool.{cases_lt}
+use Rattle.std.proofs.lemmas.List.{append-nil, append_assoc, take_all, length-drop}
 use Rattle.std.proofs.lemmas.List.Concat.{flat_map-cons}
 use Rattle.std.specs.List.{slice_get, flat_map}
 use Rattle.rows.specs.declared.row.Row.{Row}
@@ -22,6 +24,7 @@ use Rattle.walking.specs.Sides.{RowsAt, rows_in}
 use Rattle.walking.proofs.Owings.{pays-none, pays-then, breaks-then, breaks-first}
 use Rattle.records.specs.Laying.{owed_of}
 use Rattle.records.proofs.Stretches.{cut}
+use Rattle.records.specs.Tables.{stretch}
 
 module _ (place : ℕ) (facts : List Row) where
   notes-append : (xs ys : List (Option Row)) (n : ℕ) → (owe_all place facts n (xs ++ ys)).notes ≡ (owe_all place facts n xs).notes ++ (owe_all place facts (owe_all place facts n xs).count ys).notes
@@ -66,6 +69,13 @@ module _ (place : ℕ) (facts : List Row) where
   going-end whole t u g =
       subst (λ (o : Owing). Pays o t u) (sym (ap₂ (λ n ns. record { count = n; notes = ns }) g.count (g.notes ∙ append-nil g.so.notes))) g.paid
 
+-- a stretch goes no further than its table
+as_far : {X : Type 0} (xs : List X) (from to : ℕ) → stretch xs from to ≡ stretch xs from (min to (length xs))
+as_far xs from to = elim (cases_lt (length xs) to) [
+  | inl h ↦ take_all (to - from) (drop from xs) (omega (arith, length-drop from xs)) ∙ sym (take_all (length xs - from) (drop from xs) (omega (arith, length-drop from xs))) ∙ ap (λ n. take (n - from) (drop from xs)) (sym (min-eq_right {n = length xs} {m = to} (omega arith)))
+  | inr h ↦ ap (λ n. take (n - from) (drop from xs)) (sym (min-eq_left {n = to} {m = length xs} h))
+]
+
 -- the rows of the first condition, and then those of the others
 module _ (p : Columns) (ts : List Term) (r : Term) where
   pub rows-step : (from to : ℕ) (c : Condition) → from < to → slice_get p.conditions.entries from ≡ Some c → rows_in p ts r from to ≡ condition_rows ts r (condition_in p.items.entries c) ++ rows_in p ts r (from + 1) to
@@ -84,3 +94,7 @@ module _ (p : Columns) (ts : List Term) (r : Term) where
   pub rows-none : (from to : ℕ) → to ≤ from → rows_in p ts r from to ≡ []
   unfolding rows_in conditions_in
   rows-none from to h = ap (λ n. flat_map (condition_rows ts r) (map (condition_in p.items.entries) (take n (drop from p.conditions.entries)))) (let z : to - from ≡ 0 = omega arith in z)
+
+  pub rows-as-far : (from to : ℕ) → rows_in p ts r from to ≡ rows_in p ts r from (min to (length p.conditions.entries))
+  unfolding rows_in conditions_in
+  rows-as-far from to = ap (λ cs. flat_map (condition_rows ts r) (map (condition_in p.items.entries) cs)) (as_far p.conditions.entries from to)

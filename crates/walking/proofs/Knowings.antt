@@ -17,13 +17,13 @@ went_well (Ok tt) e = refl
 went_well (Err r) e = cc
 
 -- what the exit of a `?` gives
-pub refused : (result : Result (Unit {0}) Refusal) (e : Refusal) → IsErrAnd result (λ f. f ≡ e) → result ≡ Err e
+pub refused : {T : Type 0} → (result : Result T Refusal) (e : Refusal) → IsErrAnd result (λ f. f ≡ e) → result ≡ Err e
 refused result e w = let given = err_from_is_err_and result w in given.1 ∙ ap Err given.2
 
--- no row was given, and so it is refused
-pub refused_as : (o : Option Row) (r e : Refusal) (result : Result (Unit {0}) Refusal) → IsErrAnd result (λ f. f ≡ e) → Err e ≡ ok_or o r → o ≡ None → result ≡ Err r
-refused_as o r e result w v n =
-    let same : ◌≡◌ {A = Result Row Refusal} (Err e) (Err r) = v ∙ ap (λ o. ok_or o r) n in
+-- nothing was given, and so it is refused
+pub refused_as : {X T : Type 0} → (o : Option X) (r e : Refusal) (result : Result T Refusal) → IsErrAnd result (λ f. f ≡ e) → Err e ≡ ok_or o r → o ≡ None → result ≡ Err r
+refused_as {X = X} o r e result w v n =
+    let same : ◌≡◌ {A = Result X Refusal} (Err e) (Err r) = v ∙ ap (λ o. ok_or o r) n in
     let there : e ≡ r = cc in
     refused result e w ∙ ap Err there
 

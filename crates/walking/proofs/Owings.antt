@@ -50,7 +50,7 @@ module _ (duty : Duty) (place work : ℕ) (facts : List Row) (count : ℕ) where
     unfolding owe
     owe-count = refl
 
-owed-append : (ms ns : List Note) → obligations_of (ms ++ ns) ≡ obligations_of ms ++ obligations_of ns
+pub owed-append : (ms ns : List Note) → obligations_of (ms ++ ns) ≡ obligations_of ms ++ obligations_of ns
 unfolding obligations_of
 owed-append [] ns = refl
 owed-append (owes o work ∷ ms) ns = ap (λ os. o ∷ os) (owed-append ms ns)

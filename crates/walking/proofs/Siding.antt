@@ -13,7 +13,8 @@ use Rattle.records.specs.declared.condition.Item.{Item}
 use Rattle.records.specs.Tables.{stretch, atom_of, item_of, side_in}
 use Rattle.terms.specs.declared.total.Total.{Total}
 use Rattle.terms.specs.Totals.{sum_of, side_from, takes, seen, taken}
-use Rattle.walking.specs.Sides.{Fitting, Takable}
+use Rattle.records.specs.Sound.{Takable}
+use Rattle.walking.specs.Sides.{Fitting}
 
 module _ (ts : List Term) (r : Term) where
   fits-constant : (b : Bool) → fits_term (constant (pos (cond b 1 0))) ≡ true

@@ -1,15 +1,19 @@
 -- What stays as obligations are owed and facts taken.
-use Rattle.std.specs.Prelude.{◌≡◌}
+use Rattle.std.specs.Prelude.{◌≡◌, ℕ}
 use Rattle.pile.specs.Entries.{room}
+use Rattle.records.specs.declared.node.Node.{Node}
+use Rattle.records.specs.Columns.{Columns, replaced}
 use Rattle.walking.specs.declared.debts.Debts.{Debts}
 use Rattle.walking.specs.declared.facts.Facts.{Facts}
 
--- the tables are those of the same lender, and the same facts are in force
+-- the columns with another node at a position
+abbrev pub with_node : Columns → ℕ → Node → Columns
+with_node c at node = record c { nodes = replaced c.nodes at node }
+
+-- the tables are those of the same lender
 pub record DebtsKept (old new : Debts) : Type 0 where
   pub lender : new.tables.ghost_name ≡ old.tables.ghost_name
-  pub facts : new.facts.now ≡ old.facts.now
 
--- the pile is that of the same lender, with the same room
+-- the pile has the same room
 pub record FactsKept (old new : Facts) : Type 0 where
-  pub lender : new.pile.ghost_name ≡ old.pile.ghost_name
-  pub room : room new.pile.now ≡ room old.pile.now
+  pub room : room new.pile ≡ room old.pile

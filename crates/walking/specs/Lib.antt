@@ -2,3 +2,9 @@ pub mod Knowing
 pub mod Sides
 pub mod Owing
 pub mod Keeping
+pub mod Stepping
+pub mod Inferring
+pub mod Calling
+pub mod Walked
+pub mod Starting
+pub mod Bodies

@@ -1,15 +1,14 @@
 -- What adding up a side asks of the terms and items at hand.
-use Rattle.std.specs.Prelude.{◌≡◌, ℕ, ◌≤◌, true, List, length, Some, Option}
+use Rattle.std.specs.Prelude.{◌≡◌, ℕ, true, List, Some, Option}
 use Rattle.std.specs.List.{AllByRecursion, slice_get}
 use Rattle.rows.specs.declared.row.Row.{Row}
 use Rattle.language.specs.declared.term.Term.{Term}
-use Rattle.language.specs.Terms.{fits_term, near}
+use Rattle.language.specs.Terms.{fits_term}
 use Rattle.language.specs.Comparing.{condition_rows, conditions_rows}
 use Rattle.records.specs.declared.condition.Item.{Item}
 use Rattle.records.specs.declared.condition.Condition.{Condition}
 use Rattle.records.specs.Tables.{condition_in, conditions_in}
 use Rattle.records.specs.Columns.{Columns}
-use Rattle.records.specs.Standing.{SidesIn}
 use Rattle.terms.specs.declared.rowlist.Rows.{Rows}
 use Rattle.terms.specs.Listed.{list_of}
 
@@ -17,19 +16,9 @@ use Rattle.terms.specs.Listed.{list_of}
 abbrev pub Fitting : List Term → Type 0
 Fitting ts = AllByRecursion (λ t. fits_term t ≡ true) ts
 
--- no more items than a total takes, each with a factor within the limit of terms
-pub record Takable (items : List Item) : Type 0 where
-  pub few : length items ≤ 16384
-  pub near : AllByRecursion (λ (i : Item). near i.factor ≡ true) items
-
 -- the rows are those of the condition at a position, if there is one
 abbrev pub RowsAt : Rows → List Term → Term → List Item → List Condition → ℕ → Type 0
 RowsAt rows ts r items conditions at = (c : Condition) → slice_get conditions at ≡ Some c → list_of rows ≡ condition_rows ts r (condition_in items c)
-
--- items can be taken, and the sides of each condition lie among them
-pub record Sound (c : Columns) : Type 0 where
-  pub items : Takable c.items.entries
-  pub sides : AllByRecursion (SidesIn (length c.items.entries)) c.conditions.entries
 
 -- the rows of the conditions from one position up to another
 unfoldable pub rows_in : Columns → List Term → Term → ℕ → ℕ → List (Option Row)

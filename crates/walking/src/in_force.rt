@@ -11,7 +11,7 @@ use terms::constant;
 
 // The terms of the names in force, by slot, and the term of the result. All keep their limits.
 #[derive(Clone, Copy)]
-pub struct Terms<'a> {
+pub(crate) struct Terms<'a> {
     pub names: &'a [Term],
     pub outcome: &'a Term,
     ghost names_fit: { Fitting names.now } by { Prim.hlevel props },

@@ -5,7 +5,7 @@ use rows::QUANTITIES;
 use terms::quantity;
 
 // The next quantity, which is used up; the place is that of the refusal where there is none. It is a plain number, since every number may stand there: a type around it would keep nothing.
-pub fn fresh(next: &mut usize, place: usize) -> Result<Term, Refusal>
+pub(crate) fn fresh(next: &mut usize, place: usize) -> Result<Term, Refusal>
     ensures { Fresh result place next.old next.new }
 {
     let here = *next;

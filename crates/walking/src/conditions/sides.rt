@@ -36,7 +36,7 @@ impl Conditions<'_, '_, '_> {
     }
 
     // The rows of the condition at a position; past the last, none in their place.
-    pub fn rows_at(self, at: usize) -> Rows
+    pub(crate) fn rows_at(self, at: usize) -> Rows
         ensures { RowsAt result self.entry.terms.names.now self.entry.terms.outcome.now (columns_of self.entry.tables.now).items.entries (columns_of self.entry.tables.now).conditions.entries at }
     {
         match self.tables.get::<Condition>(at) {

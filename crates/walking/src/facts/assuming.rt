@@ -1,4 +1,4 @@
-ghost use Rattle.std.specs.Prelude.{◌∷◌, []};
+ghost use Rattle.std.specs.Prelude.{◌≡◌, ◌∷◌, [], length, take};
 ghost use Rattle.language.specs.Walking.{assume, assume_all};
 ghost use Rattle.pile.specs.Entries.{entries};
 ghost use Rattle.records.specs.Laying.{columns_of};
@@ -14,10 +14,32 @@ use records::{Condition, Stretch};
 use rows::{MOST_FACTS, Row};
 use terms::Rows;
 
-impl Facts<'_, '_> {
+impl Facts<'_> {
+    // The rows that are facts.
+    pub(crate) fn rows(&self) -> &[Row]
+        ensures { result.now ≡ entries self.now.pile }
+    {
+        self.pile.as_slice()
+    }
+
+    // How many there are, which is the mark to fall back to.
+    pub(crate) fn mark(&self) -> usize
+        ensures { result ≡ length (entries self.now.pile) }
+    {
+        self.pile.mark()
+    }
+
+    // The facts from a mark on are in force no more.
+    pub(crate) fn fall_back(&mut self, mark: usize)
+        ensures held { entries self.new.pile ≡ take mark (entries self.old.pile) }
+        ensures kept { FactsKept self.old self.new }
+    {
+        self.pile.fall_back(mark);
+    }
+
     // A row is in force from now on, unless there is none or no room for one more; the place is that of the refusal.
     fn assume_row(&mut self, place: usize, row: Option<Row>) -> Result<(), Refusal>
-        ensures took { Took result (assume place (entries self.old.pile.now) (row ∷ [])) (entries self.old.pile.now) (entries self.new.pile.now) }
+        ensures took { Took result (assume place (entries self.old.pile) (row ∷ [])) (entries self.old.pile) (entries self.new.pile) }
         ensures kept { FactsKept self.old self.new }
     {
         let row = row.ok_or(Refusal::Large { place })?;
@@ -28,8 +50,8 @@ impl Facts<'_, '_> {
     }
 
     // The rows of a comparison are in force from now on.
-    pub fn assume(&mut self, place: usize, rows: Rows) -> Result<(), Refusal>
-        ensures took { Took result (assume place (entries self.old.pile.now) (list_of rows)) (entries self.old.pile.now) (entries self.new.pile.now) }
+    pub(crate) fn assume(&mut self, place: usize, rows: Rows) -> Result<(), Refusal>
+        ensures took { Took result (assume place (entries self.old.pile) (list_of rows)) (entries self.old.pile) (entries self.new.pile) }
         ensures kept { FactsKept self.old self.new }
     {
         for row in rows {
@@ -39,13 +61,13 @@ impl Facts<'_, '_> {
     }
 
     // The conditions of a stretch of their table are in force from now on, each at the given place or else at its own.
-    pub fn assume_conditions(
+    pub(crate) fn assume_conditions(
         &mut self,
         conditions: Conditions<'_, '_, '_>,
         place: Option<usize>,
         listed: Stretch,
     ) -> Result<(), Refusal>
-        ensures took { Took result (assume_all (placed place) conditions.entry.terms.names.now conditions.entry.terms.outcome.now (entries self.old.pile.now) (conditions_in (columns_of conditions.entry.tables.now).items.entries (columns_of conditions.entry.tables.now).conditions.entries listed.from listed.to)) (entries self.old.pile.now) (entries self.new.pile.now) }
+        ensures took { Took result (assume_all (placed place) conditions.entry.terms.names.now conditions.entry.terms.outcome.now (entries self.old.pile) (conditions_in (columns_of conditions.entry.tables.now).items.entries (columns_of conditions.entry.tables.now).conditions.entries listed.from listed.to)) (entries self.old.pile) (entries self.new.pile) }
         ensures kept { FactsKept self.old self.new }
     {
         for condition in conditions.tables.entries_of::<Condition>(listed) {

@@ -15,7 +15,7 @@ use Rattle.walking.proofs.debts.Debts.owe_checks.Goals as goal
 
 pub returns-in_err-owe-clause-paid : goal.returns-in_err-owe-clause-paid
 returns-in_err-owe-clause-paid c =
-    let a = c.args in let t = a.self.now.tables.now in let u = c.owe.new.self.tables.now in let e = c.in_err-owe in let fs = a.self.now.facts.now in
+    let a = c.args in let t = a.self.now.tables.now in let u = c.owe.new.self.tables.now in let e = c.in_err-owe in let fs = a.facts.now in
     let is = refused c.from_residual.result e.field-0.0 c.from_residual.ensures.1 in
     let first = c.at_most.ensures ∙ ap (λ (z : Term). at_most (pos 0) z a.index.now) c.constant.ensures in
     subst (λ (r : Result (Unit {0}) Refusal). Paid r (checks a.place a.work fs (owed_of t) a.index.now a.size.now) t u) (sym is)
@@ -24,11 +24,10 @@ returns-in_err-owe-clause-paid c =
 
 pub returns-clause-paid : goal.returns-clause-paid
 returns-clause-paid c =
-    let a = c.args in let t = a.self.now.tables.now in let u = c.owe.new.self.tables.now in let two = c.owe-2 in let v = two.new.self.tables.now in let fs = a.self.now.facts.now in
+    let a = c.args in let t = a.self.now.tables.now in let u = c.owe.new.self.tables.now in let two = c.owe-2 in let v = two.new.self.tables.now in let fs = a.facts.now in
     let first = c.at_most.ensures ∙ ap (λ (z : Term). at_most (pos 0) z a.index.now) c.constant.ensures in
     let o = owe (Check Below) a.place a.work fs (owed_of t) (at_most (pos 0) zero_term a.index.now) in
     let one : Pays o t u = subst (λ (x : Option Row). Pays (owe (Check Below) a.place a.work fs (owed_of t) x) t u) first c.in_ok-owe.ensures.paid in
     subst (λ (o : Owing). Paid two.result o t v) (sym (both-checks a.place a.work fs (owed_of t) a.index.now a.size.now))
     (paid-then two.result o (owe (Check Above) a.place a.work fs o.count (at_most (pos 1) a.index.now a.size.now)) t u v one
-    (subst (λ n. Paid two.result (owe (Check Above) a.place a.work fs n (at_most (pos 1) a.index.now a.size.now)) u v) one.count (subst (λ (x : Option Row). Paid two.result (owe (Check Above) a.place a.work fs (owed_of u) x) u v) c.below.ensures
-    (subst (λ xs. Paid two.result (owe (Check Above) a.place a.work xs (owed_of u) c.below.result) u v) c.owe.ensures.kept.facts two.ensures.paid))))
+    (subst (λ n. Paid two.result (owe (Check Above) a.place a.work fs n (at_most (pos 1) a.index.now a.size.now)) u v) one.count (subst (λ (x : Option Row). Paid two.result (owe (Check Above) a.place a.work fs (owed_of u) x) u v) c.below.ensures two.ensures.paid)))

@@ -10,7 +10,7 @@ use Rattle.walking.proofs.facts.Facts.assume.Given as goal
 
 abbrev pub invariant-loop-row : goal.invariant-loop-row
 invariant-loop-row l =
-    let before = entries l.initial.self.pile.now in let now = entries l.self.pile.now in
+    let before = entries l.initial.self.pile in let now = entries l.self.pile in
     record {
       took : (r : Result (Unit {0}) Refusal) (after : List Row) → Took r (assume l.place now (left_of l.row-iterator)) now after → Took r (assume l.place before (list_of l.fn.rows)) before after;
       kept : FactsKept l.initial.self l.self;
