@@ -1,2 +1,4 @@
 pub mod Sheets
 pub mod Staging
+pub mod Walked
+pub mod Once

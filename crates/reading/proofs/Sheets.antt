@@ -1,8 +1,9 @@
 -- A written sheet by its text, tokens and nodes, and what was made of it.
-use Rattle.std.proofs.Common.{◌≡◌, ℕ, ◌≤◌, List, length, take, Result, sym, ap, ◌∙◌, subst, ap₂, arith}
+use Rattle.std.proofs.Common.{◌≡◌, ℕ, ◌≤◌, List, length, take, Err, Result, sym, ap, ◌∙◌, subst, ap₂, arith}
 use Rattle.std.proofs.lemmas.List.{take_all}
 use Rattle.letters.specs.declared.token.Token.{Token}
 use Rattle.grammar.specs.declared.node.Node.{Node}
+use Rattle.grammar.specs.Raw as Raw
 use Rattle.grammar.specs.Parsers.{Look, look_in}
 use Rattle.grammar.specs.Trees.{look_of}
 use Rattle.grammar.specs.Derives.{DSheet}
@@ -11,17 +12,11 @@ use Rattle.grammar.proofs.Weighing.{weighs}
 use Rattle.naming.specs.declared.written.Written.{Written}
 use Rattle.naming.specs.Sources.{source_of, sheet_in, rules_of}
 use Rattle.resolving.specs.Making.{Small, Fit}
-use Rattle.language.specs.Tree.{Rule}
 use Rattle.language.specs.declared.refusal.Refusal.{Refusal}
 use Rattle.records.specs.declared.record.Record.{Record}
-use Rattle.records.specs.declared.laid.Laid.{Laid}
-use Rattle.records.specs.Columns.{Columns, fresh, no_entry, tables_by, tables_in, params_in, entries_in}
-use Rattle.records.specs.Laying.{columns_of}
-use Rattle.records.specs.Rules.{RulesStand}
-use Rattle.records.proofs.Rules.{rules-length, reads-rules}
-use Rattle.records.specs.Slots.{length-slots}
-use Rattle.records.proofs.Layings.{stand_in}
-use Rattle.reading.specs.Answers.{Stand, Checked}
+use Rattle.records.specs.Columns.{Columns, fresh}
+use Rattle.reading.specs.declared.sizes.Sizes.{Sizes}
+use Rattle.reading.specs.Answers.{Refused, Checked}
 use Rattle.resolving.specs.Ruling.{Ample}
 
 -- the sheet is made of these
@@ -43,8 +38,12 @@ module _ (w : Written) (text : List ℕ) (tokens : List Token) (nodes : List Nod
   pub same-derived : length tokens ≤ 16384 → DSheet (look_in tokens (length text)) (sheet_in text tokens nodes) → DSheet (look_of (source_of w)) (rules_of w)
   same-derived h d = subst (λ rs. DSheet (look_of (source_of w)) rs) (sym same-rules) (subst (λ (l : Look). DSheet l (sheet_in text tokens nodes)) (same-look h) d)
 
-  pub same-checked : (r : Result ℕ Refusal) (records : List Record) → Checked r w.text.now (rules_of w) records → Checked r text (sheet_in text tokens nodes) records
+  pub same-checked : (r : Result Sizes Refusal) (records : List Record) → Checked r w.text.now (rules_of w) records → Checked r text (sheet_in text tokens nodes) records
   same-checked r records k = subst (λ rs. Checked r text rs records) same-rules (subst (λ t. Checked r t (rules_of w) records) same.of-text k)
+
+-- what refuses is the answer
+pub refusal-checked : (r : Result Sizes Refusal) (d : Refusal) (text : List ℕ) (sheet : Raw.Sheet) (records : List Record) → r ≡ Err d → Refused text sheet d → Checked r text sheet records
+refusal-checked r d text sheet records e k = subst (λ r. Checked r text sheet records) (sym e) k
 
 -- a sheet that the grammar has is no heavier than its tokens are many
 pub light : (w : Written) → DSheet (look_of (source_of w)) (rules_of w) → weight_of (rules_of w) ≤ 16384
@@ -53,14 +52,3 @@ light w d = let k = weighs w.tokens.now (length w.text.now) (rules_of w) d in om
 -- fresh tables have room for all that 16,384 tokens can stand for
 pub ample : (w records lender : ℕ) (p : Columns) → p ≡ fresh records lender → w ≤ 16384 → 4096 ≤ records → Ample w p
 ample w records lender p e h k = subst (Ample w) (sym e) (record { nodes = omega arith; conditions = omega arith; items = omega arith; params = omega arith; rules = omega arith })
-
--- what stands in tables that were laid stands in their records
-pub stands : (t : Laid) (n : ℕ) (rules : List Rule) → RulesStand (tables_by (columns_of t)) (columns_of t).params.entries 0 (columns_of t).entries.entries rules → n ≡ length (columns_of t).entries.entries → Stand t.records.now n rules
-stands t n rules s e =
-    let r = t.records.now in
-    let k : n ≡ t.counts.entries = e ∙ length-slots (λ r. r.entries) no_entry r t.counts.entries in
-    let a : RulesStand (tables_in r) (params_in r) 0 (entries_in r n) rules = subst (λ m. RulesStand (tables_in r) (params_in r) 0 (entries_in r m) rules) (sym k) (stand_in t 0 rules s) in record {
-      count = e ∙ rules-length (tables_by (columns_of t)) (columns_of t).params.entries 0 (columns_of t).entries.entries rules s;
-      stand = a;
-      reads = reads-rules (tables_in r) (params_in r) 0 (entries_in r n) rules a;
-    }

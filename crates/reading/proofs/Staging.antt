@@ -1,5 +1,5 @@
 -- From stage to stage: the tokens that were cut, and the sheet that was parsed.
-use Rattle.std.proofs.Common.{◌≡◌, ℕ, ◌≤◌, ⊎_elim, true, List, [], length, get_or, take, drop, ℤ, Some, None, Ok, Err, Option, Result, MatchResult, sym, refl, ap, ◌∙◌, subst, ap₂, inl, inr, arith, leb-true}
+use Rattle.std.proofs.Common.{◌≡◌, ℕ, ◌≤◌, true, List, [], length, get_or, take, drop, ℤ, Some, None, Ok, Err, Option, Result, MatchResult, sym, refl, ap, ◌∙◌, subst, ap₂, inl, inr, arith, leb-true}
 use Rattle.std.specs.Prelude.{IsErrAnd}
 use Rattle.std.proofs.lemmas.List.{take_all, take_at, take-append-drop, length-take-le, get_or_past}
 use Rattle.std.proofs.ByRecursion.{All-get_or}
@@ -26,7 +26,9 @@ use Rattle.resolving.specs.Making.{Small}
 use Rattle.language.specs.declared.refusal.Refusal.{Refusal}
 use Rattle.records.specs.declared.record.Record.{Record}
 use Rattle.resolving.specs.Resolving.{sheet_of}
-use Rattle.reading.specs.Answers.{Staged, Checked}
+use Rattle.reading.specs.declared.sizes.Sizes.{Sizes}
+use Rattle.reading.specs.Answers.{Staged, Holds, Checked, misnamed, too_many, unwalkable}
+use Rattle.reading.proofs.Walked.{sheet-is-walked}
 use Rattle.reading.specs.Reading as Reading
 use Rattle.reading.specs.Reading.{in_range, misspelling, misreading, tokens_of, misspelt, no-sheet}
 
@@ -80,16 +82,17 @@ pub refused-by-grammar : (text : List ℕ) (low high : ℤ) (records : ℕ) (w :
 refused-by-grammar text low high records Full ts ns room i c e h p l = absurd (let k = p.said in omega arith)
 refused-by-grammar text low high records (Fault q) ts ns room i c e h p l = no-sheet i c (subst (λ xs. NoSheet (look_in xs (length text)) q) e l)
 
--- what names and counts say is the answer, where the stages before them passed
-pub checked-answers : (r : Result ℕ Refusal) (text : List ℕ) (low high : ℤ) (count : ℕ) (sheet : Raw.Sheet) (records : List Record) → in_range low high count ≡ true → count ≡ length records → (cut_of text).fault ≡ None → OnlySheet (tokens_of text) sheet → Checked r text sheet records → Staged r text low high count records
-checked-answers (Ok n) text low high count sheet records i l c o k = record {
-  rules = sheet_of text sheet;
-  reads = Reading.read (subst (λ m. in_range low high m ≡ true) l i) c o k.named k.counted;
-  stand = k.stand;
-}
-checked-answers (Err r) text low high count sheet records i l c o (place, k) =
-    let P : Refusal → Type 0 = λ r. Reading.Reads text low high count (Err r) in
-    ⊎_elim (λ (e, n). subst P (sym e) (Reading.misnamed i c o n)) (λ (e, n, f). subst P (sym e) (Reading.too_many i c o n f)) k
+-- what names, counts and the walk say is the answer, where the stages before them passed
+pub checked-answers : (r : Result Sizes Refusal) (text : List ℕ) (low high : ℤ) (count : ℕ) (sheet : Raw.Sheet) (records : List Record) → in_range low high count ≡ true → count ≡ length records → (cut_of text).fault ≡ None → OnlySheet (tokens_of text) sheet → Checked r text sheet records → Staged r text low high count records
+checked-answers (Ok sizes) text low high count sheet records i l c o k =
+    let rules = sheet_of text sheet in let range = subst (λ m. in_range low high m ≡ true) l i in record {
+      rules = rules;
+      reads = Reading.read range c o k.named k.counted k.faultless;
+      holds = subst (Holds records sizes) (sym (sheet-is-walked low high (length records) rules range k.faultless)) (k.holds low high);
+    }
+checked-answers (Err _) text low high count sheet records i l c o (misnamed n) = Reading.misnamed i c o n
+checked-answers (Err _) text low high count sheet records i l c o (too_many n f) = Reading.too_many i c o n f
+checked-answers (Err _) text low high count sheet records i l c o (unwalkable n f w) = Reading.unwalkable i c o n f w
 
 -- an error that is turned into another
 module _ {E D : Type 0} (P : E → D → Type 0) where

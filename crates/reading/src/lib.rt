@@ -1,6 +1,8 @@
-// Reading a sheet: range, letters, grammar, names and counts, in this order.
+// Reading a sheet: range, letters, grammar, names, counts and the walk, in this order.
 #![tactic(auto)]
 
+mod sizes;
 mod stages;
 
+pub use sizes::Sizes;
 pub use stages::{LEAST_RECORDS, read};

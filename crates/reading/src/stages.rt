@@ -6,6 +6,7 @@ ghost use Rattle.grammar.specs.Derives.{DSheet};
 ghost use Rattle.resolving.specs.Making.{Fit};
 ghost use Rattle.reading.specs.Answers.{Answer, Staged, Checked};
 
+use crate::sizes::Sizes;
 use counting::count_fault;
 use grammar::{Node as Raw, Tokens, Unread, parse};
 use language::Refusal;
@@ -13,6 +14,7 @@ use letters::{MOST_BYTES, Misspelt, Token, cut};
 use naming::Written;
 use records::{Entry, Laid, Record, clear};
 use resolving::resolve;
+use walking::walk;
 
 // So many records hold every sheet that is read.
 pub const LEAST_RECORDS: usize = 4_096;
@@ -45,8 +47,8 @@ fn misreading(why: Unread) -> Refusal
     }
 }
 
-// Names, then counts; where both pass, the rules stand in the records, and how many there are is given.
-fn names_then_counts(sheet: Written<'_>, records: &mut [Record]) -> Result<usize, Refusal>
+// Names, then counts, then the walk; where all pass, the rules stand in the records with what they owe, and how many there are of both is given.
+fn names_to_walk(sheet: Written<'_>, records: &mut [Record]) -> Result<Sizes, Refusal>
     requires fit { Fit sheet }
     requires derived { DSheet (look_of (source_of sheet)) (rules_of sheet) }
     requires ample { 4096 ≤ length records.old }
@@ -57,14 +59,18 @@ fn names_then_counts(sheet: Written<'_>, records: &mut [Record]) -> Result<usize
     }
     let mut tables = Laid::over(records);
     resolve(sheet, &mut tables);
-    match count_fault(sheet, &tables) {
-        Some(place) => Err(Refusal::Full { place }),
-        None => Ok(tables.count::<Entry>()),
+    if let Some(place) = count_fault(sheet, &tables) {
+        return Err(Refusal::Full { place });
     }
+    walk(&mut tables)?;
+    Ok(Sizes {
+        rules: tables.count::<Entry>(),
+        owed: tables.owed(),
+    })
 }
 
 // The stages in their order, up to the first that refuses.
-fn stages(text: &[u8], low: i32, high: i32, records: &mut [Record]) -> Result<usize, Refusal>
+fn stages(text: &[u8], low: i32, high: i32, records: &mut [Record]) -> Result<Sizes, Refusal>
     ensures { Staged result text.now low high (length records.old) records.new }
 {
     if !in_range(low, high, records.len()) {
@@ -79,11 +85,11 @@ fn stages(text: &[u8], low: i32, high: i32, records: &mut [Record]) -> Result<us
     let mut raw = [Raw::Blank; MOST_BYTES];
     let made = parse(source, &mut raw).map_err(misreading)?;
     let sheet = Written::new(text, source.tokens, &raw[..made]);
-    names_then_counts(sheet, records)
+    names_to_walk(sheet, records)
 }
 
-// Reads a text in a range into records: the rules that it stands for stand there then, and how many there are is given; or the first stage at fault refuses, and every record is zero.
-pub fn read(text: &[u8], low: i32, high: i32, records: &mut [Record]) -> Result<usize, Refusal>
+// Reads a text in a range into records: the rules that it stands for stand there then, with what they owe, and how many there are of both is given; or the first stage at fault refuses, and every record is zero.
+pub fn read(text: &[u8], low: i32, high: i32, records: &mut [Record]) -> Result<Sizes, Refusal>
     ensures { Answer result text.now low high records.old records.new }
 {
     let answer = stages(text, low, high, records);

@@ -3,36 +3,37 @@
 
 mod sample;
 
-use reading::{LEAST_RECORDS, read};
+use reading::{LEAST_RECORDS, Sizes, read};
 use records::Record;
-use sample::{nested, sheet};
+use sample::{full, nested, sheet};
 use std::io;
 use std::time::Instant;
 
 const TURNS: u32 = 50;
 
 fn measure(rt: &HostRuntime, name: &str, text: &[u8], records: &mut [Record]) -> io::Result<()> {
-    let mut last = Ok(0);
+    let mut last = Ok(Sizes { rules: 0, owed: 0 });
     let start = Instant::now(rt)?;
     for _ in 0..TURNS {
         last = read(text, 0, 1000, records);
     }
     let nanos = start.elapsed(rt)?.as_nanos();
-    let rules = last.unwrap_or(0);
+    let rules = last.map_or(0, |sizes| sizes.rules);
+    let owed = last.map_or(0, |sizes| sizes.owed);
     let refused = last.err().map_or(0, |refusal| refusal.number());
     let bytes = text.len();
     let each = nanos / u128::from(TURNS);
     let rate = (bytes as u128 * 1_000_000_000)
         .checked_div(each)
         .unwrap_or(0);
-    println!(rt; "{name}, {bytes} bytes: {rules} rules, refusal {refused}")?;
+    println!(rt; "{name}, {bytes} bytes: {rules} rules, {owed} obligations, refusal {refused}")?;
     eprintln!(rt; "{name}, {bytes} bytes: {each} ns, {rate} bytes a second")
 }
 
 fn run(rt: &HostRuntime) -> io::Result<()> {
     let heap = rt.alloc();
     let mut records = vec![in heap; Record::zero(); LEAST_RECORDS]?;
-    for rules in [1u8, 2, 4, 8, 16, 26] {
+    for rules in [1u8, 2, 4, 8, 16, 25] {
         let text = sheet(heap, rules)?;
         measure(rt, "rules", text.as_slice(), &mut records)?;
     }
@@ -40,7 +41,8 @@ fn run(rt: &HostRuntime) -> io::Result<()> {
         let text = nested(heap, lets)?;
         measure(rt, "nested lets", text.as_slice(), &mut records)?;
     }
-    Ok(())
+    let text = full(heap)?;
+    measure(rt, "full", text.as_slice(), &mut records)
 }
 
 fn main(rt: HostRuntime) -> io::Result<()> {

@@ -10,10 +10,12 @@ use Rattle.records.specs.declared.condition.Item.{Item}
 use Rattle.records.specs.Tables.{Tables, condition_in, conditions_in, stretch}
 use Rattle.records.specs.Standing.{SidesIn, Listed, Stands, Grows}
 use Rattle.records.specs.Counting.{up_to, conditions_up_to, node_up_to, nodes_up_to, listed_up_to}
-use Rattle.records.proofs.Standing.{nth_end, same_tables, then_grows, listed-on, stands_on, args-on, wider}
+use Rattle.records.proofs.Standing.{nth_end, same_tables, then_grows, listed-on, stands_on, args-on, wider, longer, sides-in}
+use Rattle.records.specs.Sound.{Near}
+use Rattle.std.proofs.ByRecursion.{All-append}
 use Rattle.records.specs.Columns.{Columns, tables_by}
 use Rattle.resolving.specs.Making.{Listing, ConditionsAlone}
-use Rattle.resolving.specs.Growing.{added, Roomy, Made, ExprAt, ArgsAt}
+use Rattle.resolving.specs.Growing.{added, Roomy, Fair, Made, ExprAt, ArgsAt}
 use Rattle.resolving.proofs.Listings.{stretched}
 
 pub nodes-longer : (s t : Tables) → Grows s t → length s.nodes ≤ length t.nodes
@@ -38,12 +40,13 @@ roomy_after r m h = record {
 
 -- nothing yet
 pub made_none : (p : Columns) → Made 0 (λ byte. 0) (λ byte. 0) (λ t. Unit {0}) p p
-made_none p = record { grows = same_tables (tables_by p); holds = tt; nodes = omega arith; listed = omega arith; items = omega arith; rooms = (refl, refl, refl); others = (refl, refl, refl); exprs = λ byte. omega arith; conditions = λ byte. omega arith }
+made_none p = record { grows = same_tables (tables_by p); holds = tt; fair = λ f. f; nodes = omega arith; listed = omega arith; items = omega arith; rooms = (refl, refl, refl); others = (refl, refl, refl); exprs = λ byte. omega arith; conditions = λ byte. omega arith }
 
 pub made_as : {v w : ℕ} {c c' k k' : ℕ → ℕ} {R R' : Tables → Type 0} {p q : Columns} → Made v c k R p q → v ≤ w → ((byte : ℕ) → c byte ≡ c' byte) → ((byte : ℕ) → k byte ≡ k' byte) → (R (tables_by q) → R' (tables_by q)) → Made w c' k' R' p q
 made_as m h e f r = record {
   grows = m.grows;
   holds = r m.holds;
+  fair = m.fair;
   nodes = omega (arith, m.nodes);
   listed = omega (arith, m.listed);
   items = omega (arith, m.items);
@@ -58,6 +61,7 @@ pub made_then : {v w : ℕ} {c c' k k' : ℕ → ℕ} {R R' : Tables → Type 0}
 made_then {p = p} {q = q} {r = r} a s b = record {
   grows = then_grows (tables_by p) (tables_by q) (tables_by r) a.grows b.grows;
   holds = (s (tables_by q) (tables_by r) b.grows a.holds, b.holds);
+  fair = λ f. b.fair (a.fair f);
   nodes = omega (arith, a.nodes, b.nodes);
   listed = omega (arith, a.listed, b.listed);
   items = omega (arith, a.items, b.items);
@@ -73,6 +77,7 @@ unfolding nodes_up_to
 made-push p node = record {
   grows = record { nodes = (node ∷ [], refl); conditions = ([], sym (append-nil p.conditions.entries)); items = ([], sym (append-nil p.items.entries)) };
   holds = nth_end p.nodes.entries node;
+  fair = λ f. record { factors = f.factors; sides = f.sides };
   nodes = omega (arith, length_push p.nodes.entries node);
   listed = omega arith;
   items = omega arith;
@@ -93,6 +98,7 @@ made-node {w = w} {c' = c'} {k' = k'} {R = R} {R' = R'} {p = p} {q = q} last nod
     subst (λ (z : Columns). Made w c' k' R' p z) (sym e) (record {
       grows = then_grows (tables_by p) (tables_by q) (tables_by z) m.grows s.grows;
       holds = f m.holds (tables_by z) s.grows (omega (arith, length_push q.nodes.entries node)) s.holds;
+      fair = λ f. s.fair (m.fair f);
       nodes = omega (arith, m.nodes, s.nodes);
       listed = omega (arith, m.listed);
       items = omega (arith, m.items);
@@ -119,6 +125,14 @@ listed_here ys ns ds ds' is is' from to l f t =
       reads = ap (map (condition_in is')) e ∙ l.stand;
     }
 
+-- the sides of the new conditions lie among the items, and so do those of the others, since items were only added
+listing-fair : (ys : List Tree.Condition) (p q : Columns) → Listing ys p.conditions.entries q.conditions.entries p.items.entries q.items.entries → (Near p.items.entries → Near q.items.entries) → Fair p → Fair q
+listing-fair ys p q l n f =
+    let xs = l.items.0 in let m = length q.items.entries in record {
+      factors = n f.factors;
+      sides = subst (AllByRecursion (SidesIn m)) (sym l.grown) (All-append (SidesIn m) p.conditions.entries l.more (sides-in (length p.items.entries) m (omega (arith, ap length l.items.1, longer p.items.entries xs)) p.conditions.entries f.sides) l.sides);
+    }
+
 pub made-listed : (ys : List Tree.Condition) (w from to : ℕ) (p q : Columns) → Listing ys p.conditions.entries q.conditions.entries p.items.entries q.items.entries → from ≡ length p.conditions.entries → to ≡ length q.conditions.entries → length ys ≤ w → length q.items.entries ≤ length p.items.entries + w → ConditionsAlone p q
     → Made w (λ byte. 0) (λ byte. conditions_up_to byte ys) (λ t. Listed t from to ys) p q
 unfolding listed_up_to
@@ -128,6 +142,7 @@ made-listed ys w from to p q l f t h m alone =
     let ns : q.nodes.entries ≡ p.nodes.entries = ap (λ (c : Columns). c.nodes.entries) e in record {
       grows = record { nodes = ([], ns ∙ sym (append-nil p.nodes.entries)); conditions = (l.more, l.grown); items = l.items };
       holds = listed_here ys q.nodes.entries p.conditions.entries q.conditions.entries p.items.entries q.items.entries from to l f t;
+      fair = listing-fair ys p q l alone.near;
       nodes = omega (arith, ap length ns);
       listed = omega (arith, ap length l.grown, length-append p.conditions.entries l.more, length-map l.more (condition_in q.items.entries), ap length l.stand);
       items = m;

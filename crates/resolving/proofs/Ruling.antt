@@ -16,7 +16,8 @@ use Rattle.letters.specs.declared.token.Token.{Token}
 use Rattle.records.specs.declared.entry.Param.{Param}
 use Rattle.records.specs.declared.entry.Entry.{Entry}
 use Rattle.records.specs.Tables as Tables
-use Rattle.records.specs.Standing.{Listed}
+use Rattle.records.specs.Standing.{SidesIn, Listed}
+use Rattle.records.specs.Sound.{Near}
 use Rattle.records.specs.Rules.{RulesStand}
 use Rattle.records.specs.Counting.{conditions_up_to}
 use Rattle.naming.specs.Resolving.{conditions_of, param_of}
@@ -27,7 +28,7 @@ use Rattle.resolving.specs.Growing.{Roomy, Made, ExprMade}
 use Rattle.grammar.specs.declared.node.Node.{Node}
 use Rattle.grammar.specs.Trees.{Source, look_of, raw_at, rules_to}
 use Rattle.grammar.specs.Trees as Trees
-use Rattle.std.specs.List.{slice_get}
+use Rattle.std.specs.List.{AllByRecursion, slice_get}
 use Rattle.std.proofs.lemmas.List.Sums.{sum_by-append, sum_by_push}
 use Rattle.grammar.specs.Weights.{weight_of}
 use Rattle.records.specs.Counting.{exprs_up_to, claims_up_to, nodes_up_to, listed_up_to}
@@ -117,6 +118,7 @@ rules-none S p e = record {
   rules = omega (arith, ap length e.rules);
   exprs = λ byte. ap (nodes_up_to byte) e.nodes;
   claims = λ byte. ap (listed_up_to byte) e.conditions;
+  fair = record { factors = subst Near (sym e.items) tt; sides = subst (AllByRecursion (SidesIn (length p.items.entries))) (sym e.conditions) tt };
 }
 
 pub rules-turn : (S : Sheet) (rs : List Raw.Rule) (r : Raw.Rule) (e : Entry) (p q : Columns) → RulesMade S rs p → RuleMade S r e p q → RulesMade S (rs ++ r ∷ []) (with_entry q e)
@@ -137,6 +139,7 @@ rules-turn S rs r e p q m n =
       rules = omega (arith, m.rules);
       exprs = λ byte. n.made.exprs byte ∙ ap (λ x. x + exprs_up_to byte (rule_of S r).body) (m.exprs byte) ∙ sym (ap (sheet_exprs byte) k ∙ sum_by_push (λ (r : Tree.Rule). exprs_up_to byte r.body) (map (rule_of S) rs) (rule_of S r));
       claims = λ byte. n.made.conditions byte ∙ ap (λ x. x + ((conditions_up_to byte (rule_of S r).needs + conditions_up_to byte (rule_of S r).gives) + claims_up_to byte (rule_of S r).body)) (m.claims byte) ∙ sym (ap (sheet_conditions byte) k ∙ sum_by_push (λ (r : Tree.Rule). (conditions_up_to byte r.needs + conditions_up_to byte r.gives) + claims_up_to byte r.body) (map (rule_of S) rs) (rule_of S r));
+      fair = let f = n.made.fair (record { factors = m.fair.factors; sides = m.fair.sides }) in record { factors = f.factors; sides = f.sides };
     }
 
 module _ (s : Source) (ns : List Node) where

@@ -1,5 +1,6 @@
 -- How the tables grow while a tree is put into them.
 use Rattle.std.specs.Prelude.{◌≡◌, ℕ, ◌+◌, ◌<◌, ◌≤◌, length}
+use Rattle.std.specs.List.{AllByRecursion}
 use Rattle.grammar.specs.Raw as Raw
 use Rattle.grammar.specs.Weights.{expr_weight, args_weight}
 use Rattle.naming.specs.Scopes.{Scope, Sheet}
@@ -7,7 +8,8 @@ use Rattle.language.specs.Tree as Tree
 use Rattle.records.specs.declared.node.Node.{Node}
 use Rattle.records.specs.Tables.{Tables}
 use Rattle.records.specs.Columns.{Columns, pushed, tables_by}
-use Rattle.records.specs.Standing.{Stands, ArgsStand, Grows}
+use Rattle.records.specs.Standing.{SidesIn, Stands, ArgsStand, Grows}
+use Rattle.records.specs.Sound.{Near}
 use Rattle.records.specs.Counting.{exprs_up_to, args_up_to, claims_up_to, claims_in, nodes_up_to, listed_up_to}
 use Rattle.resolving.specs.Resolving.{expr_of, args_of}
 
@@ -21,10 +23,16 @@ pub record Roomy (w : ℕ) (p : Columns) : Type 0 where
   pub conditions : length p.conditions.entries + w ≤ p.conditions.room
   pub items : length p.items.entries + w ≤ p.items.room
 
+-- factors lie within the limit of terms, and the sides of each condition among the items
+pub record Fair (c : Columns) : Type 0 where
+  pub factors : Near c.items.entries
+  pub sides : AllByRecursion (SidesIn (length c.items.entries)) c.conditions.entries
+
 -- each grew by at most so many; how many expressions and conditions up to a byte are new
 pub record Made (w : ℕ) (c k : ℕ → ℕ) (R : Tables → Type 0) (p q : Columns) : Type 0 where
   pub grows : Grows (tables_by p) (tables_by q)
   pub holds : R (tables_by q)
+  pub fair : Fair p → Fair q
   pub nodes : length q.nodes.entries ≤ length p.nodes.entries + w
   pub listed : length q.conditions.entries ≤ length p.conditions.entries + w
   pub items : length q.items.entries ≤ length p.items.entries + w

@@ -10,6 +10,7 @@ use Rattle.records.specs.declared.condition.Condition.{Condition}
 use Rattle.records.specs.declared.condition.Item.{Item}
 use Rattle.records.specs.Tables.{condition_in}
 use Rattle.records.specs.Standing.{SidesIn}
+use Rattle.records.specs.Sound.{Near}
 use Rattle.records.specs.Columns.{Columns}
 
 -- a numeral has six digits at most
@@ -39,14 +40,16 @@ pub record Formed (y : Tree.Condition) (c : Condition) (is is' : List Item) : Ty
   pub sides : SidesIn (length is') c
   pub stand : condition_in is' c ≡ y
 
--- items alone are new
+-- items alone are new, with factors within the limit of terms
 pub record ItemsAlone (p q : Columns) : Type 0 where
   pub room : q.items.room ≡ p.items.room
+  pub near : Near p.items.entries → Near q.items.entries
   pub rest : q ≡ record p { items = q.items }
 
 -- conditions and items alone are
 pub record ConditionsAlone (p q : Columns) : Type 0 where
   pub items : q.items.room ≡ p.items.room
+  pub near : Near p.items.entries → Near q.items.entries
   pub room : q.conditions.room ≡ p.conditions.room
   pub rest : q ≡ record p { conditions = q.conditions; items = q.items }
 

@@ -17,7 +17,7 @@ use Rattle.records.specs.Rules.{RuleStands, RulesStand}
 use Rattle.records.specs.Counting.{exprs_up_to, conditions_up_to, claims_up_to, nodes_up_to, listed_up_to}
 use Rattle.counting.specs.Counts.{sheet_exprs, sheet_conditions}
 use Rattle.resolving.specs.Resolving.{rule_of}
-use Rattle.resolving.specs.Growing.{Made}
+use Rattle.resolving.specs.Growing.{Made, Fair}
 
 -- the rule whose parts are these, its body at a position below top
 abbrev pub rule_by : Written → ℕ → Ruled → Raw.Rule
@@ -48,6 +48,7 @@ pub record RulesMade (S : Sheet) (rs : List Raw.Rule) (p : Columns) : Type 0 whe
   pub rules : length p.entries.entries ≤ weight_of rs
   pub exprs : (byte : ℕ) → nodes_up_to byte p.nodes.entries ≡ sheet_exprs byte (map (rule_of S) rs)
   pub claims : (byte : ℕ) → listed_up_to byte p.conditions.entries ≡ sheet_conditions byte (map (rule_of S) rs)
+  pub fair : Fair p
 
 -- nothing lies in the tables yet
 pub record Empty (p : Columns) : Type 0 where

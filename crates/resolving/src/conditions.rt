@@ -1,5 +1,6 @@
-ghost use Rattle.std.specs.Prelude.{◌≡◌, ◌+◌, ◌<◌, ◌≤◌, [], map, length, pos};
-ghost use Rattle.records.specs.Laying.{columns_of};
+ghost use Rattle.std.specs.Prelude.{◌≡◌, ◌+◌, ◌<◌, ◌≤◌, true, [], map, length, pos};
+ghost use Rattle.language.specs.Terms.{near};
+ghost use Rattle.records.specs.Laying.{columns_of, owed_of};
 ghost use Rattle.naming.specs.Reaches.{scope_of};
 ghost use Rattle.naming.specs.Sides.{raw_item, side_left, raw_condition, conditions_left};
 ghost use Rattle.records.specs.Tables as lists;
@@ -43,7 +44,8 @@ impl Scoped<'_, '_> {
 
     fn item_of(self, read: Signed) -> Item
         requires { factor_of read.item.factor read.item.atom < 1000000 }
-        ensures { lists.item_of result ≡ item_of self.entry.sheet.text.now (scope_of self.entry.sheet self.entry.names.now []) (raw_item read) }
+        ensures item { lists.item_of result ≡ item_of self.entry.sheet.text.now (scope_of self.entry.sheet self.entry.names.now []) (raw_item read) }
+        ensures near { near result.factor ≡ true }
     {
         Item {
             factor: factor_of(read),
@@ -58,6 +60,7 @@ impl Scoped<'_, '_> {
         ensures added { Added lists.item_of (map (item_of self.entry.sheet.text.now (scope_of self.entry.sheet self.entry.names.now [])) (side_left side.entry)) (columns_of tables.old).items.entries (columns_of tables.new).items.entries }
         ensures stretch { (result.from ≡ length (columns_of tables.old).items.entries) × (result.to ≡ length (columns_of tables.new).items.entries) }
         ensures others { ItemsAlone (columns_of tables.old) (columns_of tables.new) }
+        ensures owed { owed_of tables.new ≡ owed_of tables.old }
     {
         let from = tables.count::<Item>();
         for signed in side {
@@ -76,6 +79,7 @@ impl Scoped<'_, '_> {
         ensures formed { Formed (condition_of self.entry.sheet.text.now (scope_of self.entry.sheet self.entry.names.now []) (raw_condition condition.entry)) result (columns_of tables.old).items.entries (columns_of tables.new).items.entries }
         ensures size { length (columns_of tables.new).items.entries ≤ length (columns_of tables.old).items.entries + condition_weight (raw_condition condition.entry) }
         ensures others { ItemsAlone (columns_of tables.old) (columns_of tables.new) }
+        ensures owed { owed_of tables.new ≡ owed_of tables.old }
     {
         let left = self.side(condition.left, tables);
         let right = self.side(condition.right, tables);
@@ -96,6 +100,7 @@ impl Scoped<'_, '_> {
         ensures stretch { (result.from ≡ length (columns_of tables.old).conditions.entries) × (result.to ≡ length (columns_of tables.new).conditions.entries) }
         ensures size { length (columns_of tables.new).items.entries ≤ length (columns_of tables.old).items.entries + conditions_weight (conditions_left conditions.entry) }
         ensures others { ConditionsAlone (columns_of tables.old) (columns_of tables.new) }
+        ensures owed { owed_of tables.new ≡ owed_of tables.old }
     {
         let from = tables.count::<Condition>();
         for condition in conditions {

@@ -5,7 +5,7 @@ ghost use Rattle.grammar.specs.Weights.{expr_weight, args_weight};
 ghost use Rattle.pile.specs.Entries.{entries, room};
 ghost use Rattle.naming.specs.Reaches.{scope_of, sheet_of};
 ghost use Rattle.naming.specs.Sources.{source_of};
-ghost use Rattle.records.specs.Laying.{columns_of};
+ghost use Rattle.records.specs.Laying.{columns_of, owed_of};
 ghost use Rattle.resolving.specs.Growing.{Roomy, ExprMade, ArgsMade};
 
 use crate::context::{Context, Scoped};
@@ -30,6 +30,7 @@ impl Context<'_, '_, '_> {
         requires roomy { Roomy (expr_weight (raw_at (source_of self.now.sheet) top self.now.sheet.nodes.now at)) (columns_of tables.old) }
         ensures made { ExprMade (sheet_of self.now.sheet) (scope_of self.now.sheet (entries names.old) self.now.lists.now) (raw_at (source_of self.now.sheet) top self.now.sheet.nodes.now at) result (columns_of tables.old) (columns_of tables.new) }
         ensures names { (entries names.new ≡ entries names.old) × (room names.new ≡ room names.old) }
+        ensures owed { owed_of tables.new ≡ owed_of tables.old }
     {
         let sheet = self.sheet;
         let Some(node) = sheet.node(top, at) else {
@@ -191,6 +192,7 @@ impl Context<'_, '_, '_> {
         requires roomy { Roomy (args_weight (args_at (source_of self.now.sheet) top self.now.sheet.nodes.now at)) (columns_of tables.old) }
         ensures made { ArgsMade (sheet_of self.now.sheet) (scope_of self.now.sheet (entries names.old) self.now.lists.now) (args_at (source_of self.now.sheet) top self.now.sheet.nodes.now at) after result (columns_of tables.old) (columns_of tables.new) }
         ensures names { (entries names.new ≡ entries names.old) × (room names.new ≡ room names.old) }
+        ensures owed { owed_of tables.new ≡ owed_of tables.old }
     {
         match self.sheet.last(top, at) {
             Some(part) => {
@@ -215,6 +217,7 @@ impl Context<'_, '_, '_> {
         requires roomy { Roomy (expr_weight (raw_at (source_of self.now.sheet) top self.now.sheet.nodes.now at) + 1) (columns_of tables.old) }
         ensures made { ArgsMade (sheet_of self.now.sheet) (scope_of self.now.sheet (entries names.old) self.now.lists.now) (raw.more raw.none (raw_at (source_of self.now.sheet) top self.now.sheet.nodes.now at)) after result (columns_of tables.old) (columns_of tables.new) }
         ensures names { (entries names.new ≡ entries names.old) × (room names.new ≡ room names.old) }
+        ensures owed { owed_of tables.new ≡ owed_of tables.old }
     {
         match self.sheet.bare_list(self.lists, top, at) {
             Some(list) => add(tables, Resolved::Lent { list, rest: after }),

@@ -1,7 +1,7 @@
 ghost use Rattle.std.specs.Prelude.{◌≡◌, ◌+◌, ◌≤◌, map, length};
 ghost use Rattle.grammar.specs.Stretches.{params_at};
 ghost use Rattle.grammar.specs.Trees.{look_of};
-ghost use Rattle.records.specs.Laying.{columns_of};
+ghost use Rattle.records.specs.Laying.{columns_of, owed_of};
 ghost use Rattle.naming.specs.Sources.{source_of};
 ghost use Rattle.naming.specs.Stretching.{written};
 ghost use Rattle.records.specs.Tables as lists;
@@ -27,6 +27,7 @@ pub(crate) fn params_at(sheet: Written<'_>, at: usize, tables: &mut Laid<'_>) ->
     ensures added { Added lists.param_of (map param_of (params_at (length sheet.entry.tokens.now) (look_of (source_of sheet.entry)) at)) (columns_of tables.old).params.entries (columns_of tables.new).params.entries }
     ensures stretch { (result.from ≡ length (columns_of tables.old).params.entries) × (result.to ≡ length (columns_of tables.new).params.entries) }
     ensures others { ParamsAlone (columns_of tables.old) (columns_of tables.new) }
+    ensures owed { owed_of tables.new ≡ owed_of tables.old }
 {
     let from = tables.count::<Param>();
     for param in sheet.params(at) {

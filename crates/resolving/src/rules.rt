@@ -5,7 +5,7 @@ ghost use Rattle.pile.specs.Entries.{entries, room};
 ghost use Rattle.naming.specs.Reaches.{tokens_of, sheet_of};
 ghost use Rattle.naming.specs.Sources.{rules_of};
 ghost use Rattle.resolving.specs.Making.{Fit};
-ghost use Rattle.records.specs.Laying.{columns_of};
+ghost use Rattle.records.specs.Laying.{columns_of, owed_of};
 ghost use Rattle.resolving.specs.Growing.{Roomy};
 ghost use Rattle.resolving.specs.Ruling.{rule_by, RuleMade, RulesMade, Empty, Ample, SameRooms};
 
@@ -23,7 +23,8 @@ impl Context<'_, '_, '_> {
         requires top { top ≤ 16384 }
         requires roomy { Roomy (rule_weight (rule_by self.now.sheet top ruled)) (columns_of tables.old) }
         requires params { length (columns_of tables.old).params.entries + rule_weight (rule_by self.now.sheet top ruled) ≤ (columns_of tables.old).params.room }
-        ensures { RuleMade (sheet_of self.now.sheet) (rule_by self.now.sheet top ruled) result (columns_of tables.old) (columns_of tables.new) }
+        ensures made { RuleMade (sheet_of self.now.sheet) (rule_by self.now.sheet top ruled) result (columns_of tables.old) (columns_of tables.new) }
+        ensures owed { owed_of tables.new ≡ owed_of tables.old }
     {
         let sheet = self.sheet;
         // A name that is declared twice was told before, so the fault is no news.
@@ -56,6 +57,7 @@ impl Context<'_, '_, '_> {
         requires ample { Ample (weight_of (rules_of self.now.sheet)) (columns_of tables.old) }
         ensures made { RulesMade (sheet_of self.now.sheet) (rules_of self.now.sheet) (columns_of tables.new) }
         ensures rooms { SameRooms (columns_of tables.old) (columns_of tables.new) }
+        ensures owed { owed_of tables.new ≡ owed_of tables.old }
     {
         let sheet = self.sheet;
         // By positions: a rule's parts lie below its own.
@@ -89,6 +91,7 @@ pub fn resolve(sheet: Written<'_>, tables: &mut Laid<'_>)
     requires ample { Ample (weight_of (rules_of sheet)) (columns_of tables.old) }
     ensures made { RulesMade (sheet_of sheet.entry) (rules_of sheet.entry) (columns_of tables.new) }
     ensures rooms { SameRooms (columns_of tables.old) (columns_of tables.new) }
+    ensures owed { owed_of tables.new ≡ owed_of tables.old }
 {
     let mut rule_room = [0; MOST_BYTES];
     let mut name_room = [0; NAME_ROOM];

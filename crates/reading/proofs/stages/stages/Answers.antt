@@ -47,8 +47,8 @@ returns-in_err-made c =
     subst (λ r. Staged r text c.args.low c.args.high (length c.args.records.now) c.args.records.now) (sym (q ∙ ap Err m))
     (refused-by-grammar text _ _ _ j.0 ts nodes 16384 i (cut_ok (cut_of text) n value).0 (cut-front text _ c.cut.new.tokens n value c.cut.ensures.written) (cut-few text _ c.cut.new.tokens n 16384 value c.cut.ensures.written cut_few) parsed lawful)
 
-pub names_then_counts-requires : goal.names_then_counts-requires
-names_then_counts-requires c =
+pub names_to_walk-requires : goal.names_to_walk-requires
+names_to_walk-requires c =
     let i = in_reach c.args.low c.args.high _ (length c.args.records.now) _ c.ranges.low c.ranges.high c.in_range.ensures refl ∙ c.if-not-in_range.false in
     let text = c.args.text.now in let n = c.in_ok-count.count in let made = c.in_ok-made.made in
     let k = ok_kept _ c.cut.result c.map_err.result n c.map_err.ensures.cases c.in_ok-count.was in
@@ -86,6 +86,6 @@ returns c =
     let long = c.parse.auto.nodes in
     let sheet = sheet_in text ts (take made nodes) in
     let only : OnlySheet (look_in ts (length text)) sheet = subst (OnlySheet (look_in ts (length text))) (sym (sheet-is text ts nodes made few (omega (arith, s.within, long)) s.within)) lawful in
-    checked-answers c.names_then_counts.result text _ _ (length c.args.records.now) sheet _ i (sym c.names_then_counts.auto.records) (cut_ok (cut_of text) n value).0
+    checked-answers c.names_to_walk.result text _ _ (length c.args.records.now) sheet _ i (sym c.names_to_walk.auto.records) (cut_ok (cut_of text) n value).0
     (subst (λ us. OnlySheet (look_in us (length text)) sheet) (cut-front text _ c.cut.new.tokens n value c.cut.ensures.written) only)
-    (same-checked c.new-sheet.result text ts (take made nodes) (record { of-text = c.new-sheet.ensures.text; of-tokens = c.new-sheet.ensures.tokens; of-nodes = c.new-sheet.ensures.nodes }) c.names_then_counts.result _ c.names_then_counts.ensures)
+    (same-checked c.new-sheet.result text ts (take made nodes) (record { of-text = c.new-sheet.ensures.text; of-tokens = c.new-sheet.ensures.tokens; of-nodes = c.new-sheet.ensures.nodes }) c.names_to_walk.result _ c.names_to_walk.ensures)

@@ -1,5 +1,5 @@
 use Rattle.std.specs.Prelude.{is_ok}
-use Rattle.std.proofs.Common.{◌≡◌, List, ◌∷◌, map, length, sym, ap, ◌∙◌, subst, arith}
+use Rattle.std.proofs.Common.{◌≡◌, List, ◌∷◌, map, length, sym, refl, ap, ◌∙◌, subst, arith}
 use Rattle.std.proofs.lemmas.List.{length_push}
 use Rattle.grammar.specs.Raw as Raw
 use Rattle.grammar.specs.Stretches.{params_at}
@@ -27,6 +27,7 @@ loop-param-init c =
       adding = subst (λ (qs : List Raw.Param). Adding lists.param_of (map param_of ps) xs xs (map param_of qs)) (sym l) (begun lists.param_of (map param_of ps) xs);
       room = omega (arith, c.requires, ap length l);
       others = params_none;
+      owed = refl;
       sheet = ap (λ (s : Params). s.sheet) e ∙ c.params-param-items.ensures.sheet;
     }
 
@@ -41,6 +42,7 @@ loop-param-preserved c =
       adding = turn lists.param_of _ _ (columns_of c.args.tables.now).params.entries (columns_of c.loop-param.tables).params.entries _ c.sort_of.result (param_of (written (look_of (source_of w)) c.in-Some.param)) _ i.adding (ap (map param_of) e) c.sort_of.ensures p;
       room = omega (arith, i.room, ap (λ (c : Columns). c.params.room) g);
       others = params_then i.others (param_alone (columns_of c.loop-param.tables) (columns_of q.new.self) c.sort_of.result g);
+      owed = q.ensures.owed ∙ i.owed;
       sheet = c.in-Some.ensures.steps.1 ∙ i.sheet;
     }
 
@@ -50,4 +52,5 @@ returns c =
       added = whole lists.param_of _ _ _ _ i.adding (ap (map param_of) c.in-None.ensures.steps.0.0);
       stretch = (c.count-from.ensures, c.count.ensures);
       others = i.others;
+      owed = i.owed;
     }

@@ -1,7 +1,7 @@
 use Rattle.std.proofs.Common.{◌≡◌, ◌+◌, ◌≤◌, map, length}
 use Rattle.grammar.specs.Stretches.{params_at}
 use Rattle.grammar.specs.Trees.{look_of}
-use Rattle.records.specs.Laying.{columns_of}
+use Rattle.records.specs.Laying.{columns_of, owed_of}
 use Rattle.naming.specs.Sources.{source_of}
 use Rattle.naming.specs.Stretching.{left}
 use Rattle.records.specs.Tables as lists
@@ -15,5 +15,6 @@ invariant-loop-param l = record {
   adding : Adding lists.param_of (map param_of (params_at (length l.sheet.tokens.now) (look_of (source_of l.sheet)) l.at)) (columns_of l.initial.tables).params.entries (columns_of l.tables).params.entries (map param_of (left l.param-iterator));
   room : length (columns_of l.tables).params.entries + length (left l.param-iterator) ≤ (columns_of l.tables).params.room;
   others : ParamsAlone (columns_of l.initial.tables) (columns_of l.tables);
+  owed : owed_of l.tables ≡ owed_of l.initial.tables;
   sheet : l.param-iterator.sheet ≡ l.sheet;
 }

@@ -44,6 +44,7 @@ expr-returns-in-Num t c =
     record {
       made = made-is S (scope_of w xs ls) _ _ _ _ _ _ (num-made S (scope_of w xs ls) (look_of s c.in-Num.token) _ _ (columns_of c.args.tables.now) _ c.place-place.ensures (ap (λ (k : Token). k.value) c.token-value.ensures) A.ensures.held) is A.ensures.position;
       names = (refl, refl);
+      owed = A.ensures.owed;
     }
 
 pub expr-add-requires-in-Name : goal.expr-add-requires-in-Name
@@ -62,6 +63,7 @@ expr-returns-in-Name t c =
     record {
       made = made-is S (scope_of w xs ls) _ _ _ _ _ _ (name-made S (scope_of w xs ls) (look_of s c.in-Name.token) _ _ (columns_of c.args.tables.now) _ c.place-place-in-Name.ensures (c.slot-slot.ensures ∙ ap₂ (λ zs (k : Token). slot_of (slot_in w.text.now (tokens_of w zs) k)) c.as_slice.ensures c.token.ensures) A.ensures.held) is A.ensures.position;
       names = (refl, refl);
+      owed = A.ensures.owed;
     }
 
 pub expr-expr-left-requires : goal.expr-expr-left-requires
@@ -99,6 +101,7 @@ expr-returns-in-Calc t c =
     record {
       made = made-is S (scope_of w xs ls) _ _ _ _ _ _ (calc-made S (scope_of w xs ls) (look_of s c.in-Calc.sign) _ _ _ _ _ _ (columns_of c.args.tables.now) (columns_of c.expr-left.new.tables) (columns_of c.expr-right.new.tables) _ c.expr-left.ensures.made (made_in-law S w _ xs ls (raw_at s at ns c.in-Calc.right) _ _ _ c.expr-right.ensures.made c.expr-left.ensures.names.0) c.place-place-in-Calc.ensures (c.operator_of-operator.ensures ∙ ap (λ (k : Token). operator_of k.kind) c.token-in-Calc.ensures) A.ensures.held) is A.ensures.position;
       names = (c.expr-right.ensures.names.0 ∙ c.expr-left.ensures.names.0, c.expr-right.ensures.names.1 ∙ c.expr-left.ensures.names.1);
+      owed = A.ensures.owed ∙ c.expr-right.ensures.owed ∙ c.expr-left.ensures.owed;
     }
 
 pub expr-expr-index-requires : goal.expr-expr-index-requires
@@ -126,6 +129,7 @@ expr-returns-in-Read t c =
     record {
       made = made-is S (scope_of w xs ls) _ _ _ _ _ _ (read_made S (scope_of w xs ls) (look_of s c.in-Read.name) _ _ _ _ (columns_of c.args.tables.now) (columns_of c.expr-index.new.tables) _ c.expr-index.ensures.made c.place-place-in-Read.ensures (c.slot-list.ensures ∙ ap (λ (k : Token). slot_of (slot_in w.text.now (tokens_of w ls) k)) c.token-in-Read.ensures) A.ensures.held) is A.ensures.position;
       names = (c.expr-index.ensures.names.0, c.expr-index.ensures.names.1);
+      owed = A.ensures.owed ∙ c.expr-index.ensures.owed;
     }
 
 pub expr-expr-left-requires-in-Test : goal.expr-expr-left-requires-in-Test
@@ -186,6 +190,7 @@ expr-returns-in-Test t c =
     record {
       made = made-is S (scope_of w xs ls) _ _ _ _ _ _ (test-made S (scope_of w xs ls) (look_of s c.in-Test.keyword) (look_of s c.in-Test.sign) _ _ _ _ _ _ _ _ _ _ (columns_of c.args.tables.now) (columns_of c.expr-left-in-Test.new.tables) (columns_of c.expr-right-in-Test.new.tables) (columns_of c.expr-met.new.tables) (columns_of c.expr-unmet.new.tables) _ c.expr-left-in-Test.ensures.made (made_in-law S w _ xs ls (raw_at s at ns c.in-Test.right) _ _ _ c.expr-right-in-Test.ensures.made c.expr-left-in-Test.ensures.names.0) (made_in-law S w _ xs ls (raw_at s at ns c.in-Test.met) _ _ _ c.expr-met.ensures.made (c.expr-right-in-Test.ensures.names.0 ∙ c.expr-left-in-Test.ensures.names.0)) (made_in-law S w _ xs ls (raw_at s at ns c.in-Test.unmet) _ _ _ c.expr-unmet.ensures.made (c.expr-met.ensures.names.0 ∙ c.expr-right-in-Test.ensures.names.0 ∙ c.expr-left-in-Test.ensures.names.0)) c.place-place-in-Test.ensures (c.comparison_of-comparison.ensures ∙ ap (λ (k : Token). comparison_of k.kind) c.token-in-Test.ensures) A.ensures.held) is A.ensures.position;
       names = (c.expr-unmet.ensures.names.0 ∙ c.expr-met.ensures.names.0 ∙ c.expr-right-in-Test.ensures.names.0 ∙ c.expr-left-in-Test.ensures.names.0, c.expr-unmet.ensures.names.1 ∙ c.expr-met.ensures.names.1 ∙ c.expr-right-in-Test.ensures.names.1 ∙ c.expr-left-in-Test.ensures.names.1);
+      owed = A.ensures.owed ∙ c.expr-unmet.ensures.owed ∙ c.expr-met.ensures.owed ∙ c.expr-right-in-Test.ensures.owed ∙ c.expr-left-in-Test.ensures.owed;
     }
 
 pub expr-expr-index-requires-in-Put : goal.expr-expr-index-requires-in-Put
@@ -234,6 +239,7 @@ expr-returns-in-Put t c =
     record {
       made = made-is S (scope_of w xs ls) _ _ _ _ _ _ (put-made S (scope_of w xs ls) (look_of s c.in-Put.keyword) (look_of s c.in-Put.list) _ _ _ _ _ _ _ _ _ (columns_of c.args.tables.now) (columns_of c.expr-index-in-Put.new.tables) (columns_of c.expr-value.new.tables) (columns_of c.expr-rest.new.tables) _ c.expr-index-in-Put.ensures.made (made_in-law S w _ xs ls (raw_at s at ns c.in-Put.value) _ _ _ c.expr-value.ensures.made c.expr-index-in-Put.ensures.names.0) (made_in-law S w _ xs ls (raw_at s at ns c.in-Put.rest) _ _ _ c.expr-rest.ensures.made (c.expr-value.ensures.names.0 ∙ c.expr-index-in-Put.ensures.names.0)) c.place-place-in-Put.ensures c.place-site.ensures (c.slot-list-in-Put.ensures ∙ ap (λ (k : Token). slot_of (slot_in w.text.now (tokens_of w ls) k)) c.token-in-Put.ensures) A.ensures.held) is A.ensures.position;
       names = (c.expr-rest.ensures.names.0 ∙ c.expr-value.ensures.names.0 ∙ c.expr-index-in-Put.ensures.names.0, c.expr-rest.ensures.names.1 ∙ c.expr-value.ensures.names.1 ∙ c.expr-index-in-Put.ensures.names.1);
+      owed = A.ensures.owed ∙ c.expr-rest.ensures.owed ∙ c.expr-value.ensures.owed ∙ c.expr-index-in-Put.ensures.owed;
     }
 
 pub expr-add-requires : goal.expr-add-requires
@@ -251,6 +257,7 @@ expr-returns-in_default t c =
           (num-made (sheet_of w) (scope_of w (entries c.args.names.now) c.args.self.now.lists.now) nothing 0 0 (columns_of c.args.tables.now) _ refl refl A.ensures.held)
           (raw-is s c.args.top ns c.args.at None c.in_default.ensures.read) A.ensures.position;
       names = (refl, refl);
+      owed = A.ensures.owed;
     }
 
 pub expr-add-requires-in-Blank : goal.expr-add-requires-in-Blank
@@ -284,6 +291,7 @@ expr-returns-in-Blank t c =
           (num-made (sheet_of w) (scope_of w (entries c.args.names.now) c.args.self.now.lists.now) nothing 0 0 (columns_of c.args.tables.now) _ refl refl A.ensures.held)
           blank A.ensures.position;
       names = (refl, refl);
+      owed = A.ensures.owed;
     }
 
 pub expr-add-none-requires : goal.expr-add-none-requires
@@ -327,6 +335,7 @@ expr-returns-in-Call t c =
           (rule_found w.text.now (tokens_of w c.args.self.now.rules.now) (rules_of w) _ (look_of s c.in-Call.name) _ c.slot-rule.ensures c.args.self.now.named c.token-in-Call.ensures) A.ensures.held)
           is A.ensures.position;
       names = (c.arguments-args.ensures.names.0, c.arguments-args.ensures.names.1);
+      owed = A.ensures.owed ∙ c.arguments-args.ensures.owed ∙ c.add-none.ensures.owed;
     }
 
 pub expr-expr-bound-requires : goal.expr-expr-bound-requires
@@ -375,6 +384,7 @@ expr-returns-in-Bind t c =
           c.place-place-in-Bind.ensures A.ensures.held)
           is A.ensures.position;
       names = (kept ∙ m.ensures.names.0, c.fall_back.ensures.room ∙ b.ensures.names.1 ∙ c.push.ensures.room ∙ m.ensures.names.1);
+      owed = A.ensures.owed ∙ b.ensures.owed ∙ m.ensures.owed;
     }
 
 pub expr-expr-claimed-requires : goal.expr-expr-claimed-requires
@@ -426,6 +436,7 @@ expr-returns-in-Claim t c =
           c.place-place-in-Claim.ensures A.ensures.held)
           is A.ensures.position;
       names = (m.ensures.names.0, m.ensures.names.1);
+      owed = A.ensures.owed ∙ l.ensures.owed ∙ m.ensures.owed;
     }
 
 pub expr-expr-requires : goal.expr-expr-requires
@@ -443,6 +454,7 @@ expr-returns-in-Nest t c =
     record {
       made = made-is S (scope_of w xs ls) _ _ _ _ _ _ (nest-made S (scope_of w xs ls) (look_of s c.in-Nest.bracket) (raw_at s at ns c.in-Nest.inner) _ _ _ c.expr.ensures.made) is refl;
       names = (c.expr.ensures.names.0, c.expr.ensures.names.1);
+      owed = c.expr.ensures.owed;
     }
 
 pub arguments-argument-link-requires : goal.arguments-argument-link-requires
@@ -472,6 +484,7 @@ arguments-returns-in-Some t c =
           (more-made S (scope_of w xs ls) (args_at s c.args.at ns k.before) (raw_at s c.args.at ns k.last) c.args.after m.result n.result (columns_of c.args.tables.now) (columns_of m.new.tables) (columns_of n.new.tables) m.ensures.made
           (subst (λ zs. ArgsMade S (scope_of w zs ls) (args_at s c.args.at ns k.before) m.result n.result (columns_of m.new.tables) (columns_of n.new.tables)) m.ensures.names.0 n.ensures.made));
       names = (n.ensures.names.0 ∙ m.ensures.names.0, n.ensures.names.1 ∙ m.ensures.names.1);
+      owed = n.ensures.owed ∙ m.ensures.owed;
     }
 
 pub arguments-returns-in-None : goal.arguments-returns-in-None
@@ -481,6 +494,7 @@ arguments-returns-in-None t c =
     record {
       made = subst (λ es. ArgsMade S (scope_of w xs ls) es c.args.after c.args.after (columns_of c.args.tables.now) (columns_of c.args.tables.now)) (sym is) (none_made S (scope_of w xs ls) c.args.after (columns_of c.args.tables.now));
       names = (refl, refl);
+      owed = refl;
     }
 
 pub argument-add-requires : goal.argument-add-requires
@@ -493,6 +507,7 @@ argument-returns-in-Some t c =
       made = subst (λ i. ArgsMade S (scope_of w xs ls) (Raw.more Raw.none (raw_at s c.args.top ns c.args.at)) c.args.after i (columns_of c.args.tables.now) (columns_of A.new.tables)) (sym A.ensures.position)
           (lent-made S (scope_of w xs ls) (raw_at s c.args.top ns c.args.at) _ c.args.after (columns_of c.args.tables.now) _ c.in-Some.ensures A.ensures.held);
       names = (refl, refl);
+      owed = A.ensures.owed;
     }
 
 pub argument-expr-argument-requires : goal.argument-expr-argument-requires
@@ -510,4 +525,5 @@ argument-returns-in-None t c =
       made = subst (λ i. ArgsMade S (scope_of w xs ls) (Raw.more Raw.none (raw_at s c.args.top ns c.args.at)) c.args.after i (columns_of c.args.tables.now) (columns_of A.new.tables)) (sym A.ensures.position)
           (value_made S (scope_of w xs ls) (raw_at s c.args.top ns c.args.at) _ c.args.after (columns_of c.args.tables.now) (columns_of m.new.tables) _ c.in-None.ensures m.ensures.made A.ensures.held);
       names = (m.ensures.names.0, m.ensures.names.1);
+      owed = A.ensures.owed ∙ m.ensures.owed;
     }

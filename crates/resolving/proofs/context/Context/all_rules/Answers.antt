@@ -10,7 +10,7 @@ use Rattle.records.specs.declared.entry.Entry.{Entry}
 use Rattle.records.specs.Columns.{Column}
 use Rattle.records.specs.Kept.{entry_laws}
 use Rattle.records.proofs.Lawful.{taken}
-use Rattle.records.specs.Laying.{columns_of}
+use Rattle.records.specs.Laying.{columns_of, owed_of}
 use Rattle.resolving.specs.Ruling.{SameRooms}
 use Rattle.resolving.specs.Ruling.{rule_by}
 use Rattle.resolving.proofs.Ruling.{rooms_none, rooms_turn, rules-none, rules-turn, rules-in, rules-zero, rules-next, rules-same, weight-front}
@@ -22,6 +22,7 @@ loop-at-init c =
     let w = c.args.self.now.sheet in (
       rules-in (sheet_of w) [] _ _ _ (rules-none (sheet_of w) (columns_of c.args.tables.now) c.requires.empty) (rules-zero (source_of w) w.nodes.now) refl,
       rooms_none,
+      refl,
     )
 
 pub rule-entry-requires : goal.rule-entry-requires
@@ -46,7 +47,7 @@ unwrap-requires c =
     let here : rules_to s (at + 1) ns ≡ rules_to s at ns ++ rule_by w at k ∷ [] = rules-next s ns at ∙ ap (λ xs. rules_to s at ns ++ xs) (rule-here s ns at k c.in-Some.ensures) in
     let h = ap weight_of here ∙ sum_by_push rule_weight (rules_to s at ns) (rule_by w at k) in
     let f = weight-front s ns (at + 1) (length ns) (omega (arith, c.loop-at-test.true)) in
-    let same = c.rule-entry.ensures.made.others.1 in
+    let same = c.rule-entry.ensures.made.made.others.1 in
     c.push.ensures.value ∙ lt-ltb _ _ (omega (arith, i.0.rules, c.requires.ample.rules, i.1.entries, ap (λ (c : Column Entry). length c.entries) same, ap (λ (c : Column Entry). c.room) same))
 
 pub loop-at-preserved : goal.loop-at-preserved
@@ -58,7 +59,7 @@ loop-at-preserved c =
           let here : rules_to s (at + 1) ns ≡ rules_to s at ns ++ rule_by w at k ∷ [] = rules-next s ns at ∙ ap (λ xs. rules_to s at ns ++ xs) (rule-here s ns at k v.in-Some.ensures) in
           let h = ap weight_of here ∙ sum_by_push rule_weight (rules_to s at ns) (rule_by w at k) in
           let f = weight-front s ns (at + 1) (length ns) (omega (arith, c.loop-at-test.true)) in
-          let m = r.ensures in
+          let m = r.ensures.made in
           let same = m.made.others.1 in
           let p = taken entry_laws (columns_of r.new.tables) (columns_of q.new.self) r.result (is_ok q.result) q.ensures.value
           (omega (arith, i.0.rules, c.requires.ample.rules, i.1.entries, ap (λ (c : Column Entry). length c.entries) same, ap (λ (c : Column Entry). c.room) same)) q.ensures.held in
@@ -67,10 +68,12 @@ loop-at-preserved c =
                 (rules-turn (sheet_of w) (rules_to s at ns) (rule_by w at k) r.result (columns_of c.loop-at.tables) (columns_of r.new.tables) i.0 m)
                 here z,
             subst (SameRooms (columns_of c.args.tables.now)) (sym z) (rooms_turn (sheet_of w) (rule_by w at k) r.result (columns_of c.args.tables.now) (columns_of c.loop-at.tables) (columns_of r.new.tables) i.1 m),
+            ap owed_of v.tables-is ∙ q.ensures.owed ∙ r.ensures.owed ∙ i.2,
           )
       | in_default v ↦ (
         rules-in (sheet_of w) _ _ _ _ i.0 (rules-same s ns at (rule-not s ns at v.in_default.ensures)) (ap columns_of v.tables-is),
         subst (SameRooms (columns_of c.args.tables.now)) (sym (ap columns_of v.tables-is)) i.1,
+        ap owed_of v.tables-is ∙ i.2,
       )
     ]
 
@@ -79,4 +82,5 @@ returns c =
     let w = c.args.self.now.sheet in let s = source_of w in let ns = w.nodes.now in record {
       made = rules-in (sheet_of w) _ _ _ _ c.loop-at.invariant.0 (ap (λ n. rules_to s n ns) (let e : length ns ≡ c.loop-at.at = omega (arith, c.loop-at-test.false, c.loop-at.auto.at-end) in e)) refl;
       rooms = c.loop-at.invariant.1;
+      owed = c.loop-at.invariant.2;
     }

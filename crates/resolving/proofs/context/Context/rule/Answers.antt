@@ -70,6 +70,9 @@ returns c =
     let G = conditions-made text (scope_of w ns ls) Γ (optional_at n l Gives k.gives) (conditions_left c.optional-2.result) g.result.from g.result.to F G2 c.optional-2.ensures.conditions (subst (λ zs. Listing (conditions_of text (scope_of w zs ls) (conditions_left c.optional-2.result)) F.conditions.entries G2.conditions.entries F.items.entries G2.items.entries) c.as_slice.ensures g.ensures.listing) scope g.ensures.stretch.0 g.ensures.stretch.1 g.ensures.size g.ensures.others in
     let B : ExprMade (sheet_of w) Γ (raw_at s top w.nodes.now k.body) b.result G2 (columns_of b.new.tables) =
     subst (λ (Δ : Scope). ExprMade (sheet_of w) Δ (raw_at s top w.nodes.now k.body) b.result G2 (columns_of b.new.tables)) (ap (scope_of w ns) c.as_slice-2.ensures ∙ scope) b.ensures.made in
-    rule-made (sheet_of w) (rule_by w top k) _ (columns_of c.args.tables.now) P F G2 (columns_of b.new.tables)
-    a.ensures.added
-    a.ensures.stretch.0 a.ensures.stretch.1 a.ensures.others N G B c.place.ensures
+    record {
+      made = rule-made (sheet_of w) (rule_by w top k) _ (columns_of c.args.tables.now) P F G2 (columns_of b.new.tables)
+          a.ensures.added
+          a.ensures.stretch.0 a.ensures.stretch.1 a.ensures.others N G B c.place.ensures;
+      owed = b.ensures.owed ∙ g.ensures.owed ∙ f.ensures.owed ∙ a.ensures.owed;
+    }

@@ -1,4 +1,4 @@
-use Rattle.std.proofs.Common.{[], arith}
+use Rattle.std.proofs.Common.{[], ◌∙◌, arith}
 use Rattle.std.proofs.lemmas.List.{length-map}
 use Rattle.records.specs.Laying.{columns_of}
 use Rattle.records.specs.Tables as lists
@@ -33,4 +33,5 @@ returns c =
           c.place.ensures c.comparison_of.ensures f.ensures.stretch.0 f.ensures.stretch.1 g.ensures.stretch.0 g.ensures.stretch.1;
       size = omega arith;
       others = items_then f.ensures.others g.ensures.others;
+      owed = g.ensures.owed ∙ f.ensures.owed;
     }

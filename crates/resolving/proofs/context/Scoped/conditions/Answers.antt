@@ -26,6 +26,7 @@ loop-condition-init c =
       items = omega (arith, c.requires.items, n);
       size = omega (arith, n);
       others = conditions_none;
+      owed = refl;
       sheet = ap (λ (s : Conditions). s.sheet) e ∙ c.requires.sheet;
     }
 
@@ -58,6 +59,7 @@ loop-condition-preserved c =
       items = omega (arith, i.items, f.ensures.size, f.ensures.others.room, ap (λ (c : Columns). c.items.room) g, ap (λ (c : Columns). length c.items.entries) g);
       size = omega (arith, i.size, f.ensures.size, ap (λ (c : Columns). length c.items.entries) g);
       others = conditions_then i.others (conditions_then (items_alone f.ensures.others) (condition_alone (columns_of f.new.tables) (columns_of q.new.self) f.result g));
+      owed = q.ensures.owed ∙ f.ensures.owed ∙ i.owed;
       sheet = s.sheet ∙ i.sheet;
     }
 
@@ -69,4 +71,5 @@ returns c =
       stretch = (c.count-from.ensures, c.count.ensures);
       size = omega (arith, i.size);
       others = i.others;
+      owed = i.owed;
     }

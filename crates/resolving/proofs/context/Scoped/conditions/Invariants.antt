@@ -1,6 +1,6 @@
 use Rattle.std.proofs.Common.{◌≡◌, ◌+◌, ◌≤◌, [], length}
 use Rattle.grammar.specs.Weights.{conditions_weight}
-use Rattle.records.specs.Laying.{columns_of}
+use Rattle.records.specs.Laying.{columns_of, owed_of}
 use Rattle.naming.specs.Reaches.{scope_of}
 use Rattle.naming.specs.Sides.{conditions_left}
 use Rattle.naming.specs.Resolving.{condition_of}
@@ -15,5 +15,6 @@ invariant-loop-condition l = record {
   items : length (columns_of l.tables).items.entries + conditions_weight (conditions_left l.condition-iterator) ≤ (columns_of l.tables).items.room;
   size : length (columns_of l.tables).items.entries + conditions_weight (conditions_left l.condition-iterator) ≤ length (columns_of l.initial.tables).items.entries + conditions_weight (conditions_left l.conditions);
   others : ConditionsAlone (columns_of l.initial.tables) (columns_of l.tables);
+  owed : owed_of l.tables ≡ owed_of l.initial.tables;
   sheet : l.condition-iterator.sheet ≡ l.self.sheet;
 }

@@ -1,5 +1,5 @@
 use Rattle.std.specs.Prelude.{is_ok}
-use Rattle.std.proofs.Common.{[], map, length, sym, ap, ◌∙◌, subst, unwrap_or, arith}
+use Rattle.std.proofs.Common.{[], map, length, sym, refl, ap, ◌∙◌, subst, unwrap_or, arith}
 use Rattle.std.proofs.lemmas.List.{length_push}
 use Rattle.grammar.specs.Raw as Raw
 use Rattle.grammar.specs.Trees.{look_of}
@@ -26,6 +26,7 @@ loop-signed-init c =
       added = subst (λ (s : Items). Adding lists.item_of ys xs xs (map R (side_left s))) (sym e) (begun lists.item_of ys xs);
       room = omega (arith, c.requires.room, ap (λ (s : Items). length (side_left s)) e);
       others = items_none;
+      owed = refl;
       sheet = ap (λ (s : Items). s.sheet) e ∙ c.requires.sheet;
     }
 
@@ -45,9 +46,10 @@ loop-signed-preserved c =
     let g = taken item_laws (columns_of c.loop-signed.tables) (columns_of q.new.self) x (is_ok q.result) q.ensures.value (omega (arith, ap length left, i.room)) q.ensures.held in
     let p = ap (λ (c : Columns). c.items.entries) g in
     let k = ap length p ∙ length_push (columns_of c.loop-signed.tables).items.entries x in record {
-      added = turn lists.item_of _ _ (columns_of c.args.tables.now).items.entries (columns_of c.loop-signed.tables).items.entries _ x (R (raw_item c.in-Some.signed)) _ i.added (ap (map R) left) c.item_of.ensures p;
+      added = turn lists.item_of _ _ (columns_of c.args.tables.now).items.entries (columns_of c.loop-signed.tables).items.entries _ x (R (raw_item c.in-Some.signed)) _ i.added (ap (map R) left) c.item_of.ensures.item p;
       room = omega (arith, ap length left, i.room, ap (λ (c : Columns). c.items.room) g);
-      others = items_then i.others (item_alone (columns_of c.loop-signed.tables) (columns_of q.new.self) x g);
+      others = items_then i.others (item_alone (columns_of c.loop-signed.tables) (columns_of q.new.self) x c.item_of.ensures.near g);
+      owed = q.ensures.owed ∙ i.owed;
       sheet = c.in-Some.ensures.steps.sheet ∙ i.sheet;
     }
 
@@ -57,4 +59,5 @@ returns c =
       added = whole lists.item_of _ _ _ _ i.added (ap (map R) c.in-None.ensures.steps.items.0);
       stretch = (c.count-from.ensures, c.count.ensures);
       others = i.others;
+      owed = i.owed;
     }

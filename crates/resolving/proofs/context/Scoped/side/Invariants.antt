@@ -1,5 +1,5 @@
 use Rattle.std.proofs.Common.{◌≡◌, ◌+◌, ◌≤◌, [], map, length}
-use Rattle.records.specs.Laying.{columns_of}
+use Rattle.records.specs.Laying.{columns_of, owed_of}
 use Rattle.naming.specs.Reaches.{scope_of}
 use Rattle.naming.specs.Sides.{side_left}
 use Rattle.records.specs.Tables as lists
@@ -13,5 +13,6 @@ invariant-loop-signed l = record {
   added : Adding lists.item_of (map (item_of l.self.sheet.text.now (scope_of l.self.sheet l.self.names.now [])) (side_left l.side)) (columns_of l.initial.tables).items.entries (columns_of l.tables).items.entries (map (item_of l.self.sheet.text.now (scope_of l.self.sheet l.self.names.now [])) (side_left l.signed-iterator));
   room : length (columns_of l.tables).items.entries + length (side_left l.signed-iterator) ≤ (columns_of l.tables).items.room;
   others : ItemsAlone (columns_of l.initial.tables) (columns_of l.tables);
+  owed : owed_of l.tables ≡ owed_of l.initial.tables;
   sheet : l.signed-iterator.sheet ≡ l.self.sheet;
 }
