@@ -1,0 +1,9 @@
+pub mod Kept
+pub mod Drafting
+pub mod Taking
+pub mod Listing
+pub mod Lending
+pub mod Settling
+pub mod Guarding
+pub mod Clearing
+pub mod Promised
