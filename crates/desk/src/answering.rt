@@ -1,20 +1,30 @@
 use crate::by_hand::ByHand;
 use crate::commands::{Command, Complaint, DomainName, ProverName, read_command};
+use crate::explaining::{Explained, explain_all, print_explained};
 use crate::pictures::print_check;
-use crate::sheets::{print_read, read_front};
+use crate::settling::{Settling, settle};
+use crate::sheets::{
+    Sheet, Statement, listing, print_listing, print_question, print_ready, print_refusal,
+    print_settlings, read_front, state,
+};
 use asking::linear_certificate;
 use domains::{Fault, Linear, Modes, verified};
-use language::Refusal;
+use engine::{Draft, Listed, Record, Refusal, make, room, test};
 use provers::{Empty, MOST_NUMBERS, Prover};
-use reading::read;
-use records::Record;
 use std::alloc::Global;
 use std::io;
 use std::str::from_utf8;
 
 const HELP: &'static str = "commands, one a line, words separated by single blanks:
   check FILE               read the sheet in a file, and show where it is refused
+  explain FILE             show what the sheet in a file owes, in its own names, and what is settled of it
   sheet FILE LOW HIGH      read the sheet in a file for numbers from LOW to HIGH
+  obligations              list what the sheet owes
+  question K               show the facts and the goal of obligation K
+  settle K DOMAIN PROVER   ask a prover about obligation K, and settle it if the domain finds that good
+  settle all DOMAIN PROVER the same for each obligation in turn
+  ready                    say whether every guard is settled
+  clear                    make a book of the sheet, open or closed
   question-new             begin a new question
   fact ROW                 add a fact to the question
   goal ROW                 set the question's goal
@@ -32,19 +42,36 @@ enum Answer {
     Help,
     Outcome(Result<(), Fault>),
     Proposal(Option<Vec<u32>>),
-    Sheet(Result<usize, Refusal>),
+    Listing(Vec<Listed>),
+    Question(Statement),
+    Refused(Refusal),
+    Settled(Vec<Settling>),
+    Ready(Result<(), Refusal>),
     Check {
         file: String,
         text: Vec<u8>,
         read: Result<usize, Refusal>,
     },
+    Explained {
+        file: String,
+        text: Vec<u8>,
+        owed: Vec<Explained>,
+    },
 }
 
-// What the desk has at hand: the question by hand, and records to read sheets into.
+// What the desk has at hand: the question by hand, and records to try sheets in.
 #[derive(Drop)]
 pub(crate) struct Desk {
     pub question: ByHand,
-    pub records: Vec<Record>,
+    pub scratch: Vec<Record>,
+}
+
+// What follows a line: the next, a sheet in place of what is at hand, or the book of the draft.
+#[derive(Drop)]
+pub(crate) enum Then {
+    Line,
+    Sheet(Sheet),
+    Clear,
 }
 
 // A match of two arms: a `dyn` value would be picked by the same match.
@@ -74,36 +101,84 @@ fn ask(heap: Global, question: &ByHand, prover: ProverName) -> Result<Answer, Co
 // The widest range: what it is makes no difference to the stages that a check shows.
 fn check(rt: &HostRuntime, records: &mut [Record], file: String) -> Result<Answer, Complaint> {
     let text = read_front(rt, file.as_str())?;
-    let read = read(text.as_slice(), i32::MIN, i32::MAX, records);
+    let tested = test(text.as_slice(), i32::MIN, i32::MAX, records);
+    let draft = make(text.as_slice(), i32::MIN, i32::MAX, records);
+    let read = tested.map(|_| draft.rules());
     Ok(Answer::Check { file, text, read })
 }
 
+// The same range, since it is no part of what a sheet owes; what is settled in it is settled in any other.
+fn explain(rt: &HostRuntime, records: &mut [Record], file: String) -> Result<Answer, Complaint> {
+    let text = read_front(rt, file.as_str())?;
+    if let Err(refusal) = test(text.as_slice(), i32::MIN, i32::MAX, records) {
+        let read = Err(refusal);
+        return Ok(Answer::Check { file, text, read });
+    }
+    let mut draft = make(text.as_slice(), i32::MIN, i32::MAX, records);
+    let owed = explain_all(rt.alloc(), &mut draft)?;
+    Ok(Answer::Explained { file, text, owed })
+}
+
+// The obligation of the draft with a number.
+fn question(heap: Global, draft: &Draft<'_>, number: usize) -> Result<Answer, Complaint> {
+    let mut lent = room();
+    match draft.question(number, &mut lent) {
+        Ok(asked) => Ok(Answer::Question(state(heap, asked, &lent)?)),
+        Err(refusal) => Ok(Answer::Refused(refusal)),
+    }
+}
+
+// Answers what needs no draft.
 fn obey(rt: &HostRuntime, desk: &mut Desk, command: Command) -> Result<Answer, Complaint> {
-    let question = &mut desk.question;
+    let by_hand = &mut desk.question;
     match command {
         Command::Help => Ok(Answer::Help),
         Command::QuestionNew => {
-            question.begin_again();
+            by_hand.begin_again();
             Ok(Answer::Silence)
         }
         Command::Fact(row) => {
-            question.add_fact(row)?;
+            by_hand.add_fact(row)?;
             Ok(Answer::Silence)
         }
         Command::Goal(row) => {
-            question.set_goal(row);
+            by_hand.set_goal(row);
             Ok(Answer::Silence)
         }
         Command::Verify {
             domain,
             certificate,
-        } => verify(question, domain, certificate.as_slice()),
-        Command::Ask(prover) => ask(rt.alloc(), question, prover),
-        Command::Sheet { file, low, high } => {
-            let text = read_front(rt, file.as_str())?;
-            Ok(Answer::Sheet(read(text.as_slice(), low, high, &mut desk.records)))
-        }
-        Command::Check(file) => check(rt, &mut desk.records, file),
+        } => verify(by_hand, domain, certificate.as_slice()),
+        Command::Ask(prover) => ask(rt.alloc(), by_hand, prover),
+        Command::Check(file) => check(rt, &mut desk.scratch, file),
+        Command::Explain(file) => explain(rt, &mut desk.scratch, file),
+        Command::Obligations
+        | Command::Question(_)
+        | Command::Settle { .. }
+        | Command::Ready
+        | Command::Clear
+        | Command::Sheet { .. } => Err(Complaint::NoDraft),
+    }
+}
+
+// Answers over a draft.
+fn obey_over(
+    rt: &HostRuntime,
+    desk: &mut Desk,
+    draft: &mut Draft<'_>,
+    command: Command,
+) -> Result<Answer, Complaint> {
+    let heap = rt.alloc();
+    match command {
+        Command::Obligations => Ok(Answer::Listing(listing(heap, draft)?)),
+        Command::Question(number) => question(heap, draft, number),
+        Command::Settle {
+            which,
+            domain,
+            prover,
+        } => Ok(Answer::Settled(settle(heap, draft, which, domain, prover)?)),
+        Command::Ready => Ok(Answer::Ready(draft.ready())),
+        other => obey(rt, desk, other),
     }
 }
 
@@ -132,31 +207,95 @@ fn print_answer(rt: &HostRuntime, answer: Result<Answer, Complaint>) -> io::Resu
         Ok(Answer::Outcome(outcome)) => print_outcome(rt, outcome),
         Ok(Answer::Proposal(None)) => print_proposal(rt, None),
         Ok(Answer::Proposal(Some(numbers))) => print_proposal(rt, Some(numbers.as_slice())),
-        Ok(Answer::Sheet(read)) => print_read(rt, read),
+        Ok(Answer::Listing(all)) => print_listing(rt, all.as_slice()),
+        Ok(Answer::Question(asked)) => print_question(rt, &asked),
+        Ok(Answer::Refused(refusal)) => print_refusal(rt, refusal),
+        Ok(Answer::Settled(settlings)) => print_settlings(rt, settlings.as_slice()),
+        Ok(Answer::Ready(answer)) => print_ready(rt, answer),
         Ok(Answer::Check { file, text, read }) => print_check(
             rt,
             file.as_str(),
             text.as_slice(),
             read,
         ),
+        Ok(Answer::Explained { file, text, owed }) => print_explained(
+            rt,
+            file.as_str(),
+            text.as_slice(),
+            owed.as_slice(),
+        ),
         Err(complaint) => println!(rt; "error: {complaint}"),
     }
 }
 
-fn answer_text(rt: &HostRuntime, desk: &mut Desk, line: &str) -> io::Result<()> {
-    if line.is_empty() || line.starts_with('#') {
-        return Ok(());
-    }
-    println!(rt; "> {line}")?;
-    let answer = read_command(rt.alloc(), line).and_then(|command| obey(rt, desk, command));
-    print_answer(rt, answer)
+// The sheet that is asked for, if it can be read from its file.
+fn open(rt: &HostRuntime, file: &str, low: i32, high: i32) -> Result<Sheet, Complaint> {
+    let text = read_front(rt, file)?;
+    Ok(Sheet { text, low, high })
 }
 
-// Answers one line; a carriage return before its end is not part of it.
-pub(crate) fn answer_line(rt: &HostRuntime, desk: &mut Desk, bytes: &[u8]) -> io::Result<()> {
+fn answer_open(rt: &HostRuntime, file: &str, low: i32, high: i32) -> io::Result<Then> {
+    match open(rt, file, low, high) {
+        Ok(sheet) => Ok(Then::Sheet(sheet)),
+        Err(complaint) => {
+            print_answer(rt, Err(complaint))?;
+            Ok(Then::Line)
+        }
+    }
+}
+
+// Answers a command where no draft is at hand.
+pub(crate) fn answer_command(
+    rt: &HostRuntime,
+    desk: &mut Desk,
+    command: Command,
+) -> io::Result<Then> {
+    if let Command::Sheet { file, low, high } = command {
+        return answer_open(rt, file.as_str(), low, high);
+    }
+    let answer = obey(rt, desk, command);
+    print_answer(rt, answer)?;
+    Ok(Then::Line)
+}
+
+// Answers a command over a draft.
+pub(crate) fn answer_over(
+    rt: &HostRuntime,
+    desk: &mut Desk,
+    draft: &mut Draft<'_>,
+    command: Command,
+) -> io::Result<Then> {
+    if let Command::Sheet { file, low, high } = command {
+        return answer_open(rt, file.as_str(), low, high);
+    }
+    if let Command::Clear = command {
+        return Ok(Then::Clear);
+    }
+    let answer = obey_over(rt, desk, draft, command);
+    print_answer(rt, answer)?;
+    Ok(Then::Line)
+}
+
+fn hear_text(rt: &HostRuntime, line: &str) -> io::Result<Option<Command>> {
+    if line.is_empty() || line.starts_with('#') {
+        return Ok(None);
+    }
+    println!(rt; "> {line}")?;
+    match read_command(rt.alloc(), line) {
+        Ok(command) => Ok(Some(command)),
+        Err(complaint) => {
+            print_answer(rt, Err(complaint))?;
+            Ok(None)
+        }
+    }
+}
+
+// The command that a line is, which is written back; none where it is passed over or answered by an error. A carriage return before its end is not part of it.
+pub(crate) fn hear(rt: &HostRuntime, bytes: &[u8]) -> io::Result<Option<Command>> {
     let Ok(text) = from_utf8(bytes) else {
         println!(rt; "> (not text)")?;
-        return print_answer(rt, Err(Complaint::NoText));
+        print_answer(rt, Err(Complaint::NoText))?;
+        return Ok(None);
     };
-    answer_text(rt, desk, text.strip_suffix('\r').unwrap_or(text))
+    hear_text(rt, text.strip_suffix('\r').unwrap_or(text))
 }

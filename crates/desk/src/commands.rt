@@ -41,6 +41,13 @@ impl FromStr for ProverName {
     }
 }
 
+// Which obligations are to be settled.
+#[derive(Clone, Copy)]
+pub enum Which {
+    All,
+    One(usize),
+}
+
 // What a line asks for.
 #[derive(Drop)]
 pub enum Command {
@@ -58,13 +65,23 @@ pub enum Command {
         low: i32,
         high: i32,
     },
+    Obligations,
+    Question(usize),
+    Settle {
+        which: Which,
+        domain: DomainName,
+        prover: ProverName,
+    },
+    Ready,
+    Clear,
     Check(String),
+    Explain(String),
 }
 
 // Why a line is no command, or has no meaning where it stands.
 #[derive(Debug, Drop, Error)]
 pub enum Complaint {
-    #[error("no such command: expected sheet, check, question-new, fact, goal, verify, ask or help")]
+    #[error("no such command: expected sheet, obligations, question, settle, ready, clear, check, explain, question-new, fact, goal, verify, ask or help")]
     Unknown,
     #[error("something stands after the command: expected the command alone")]
     Bare,
@@ -74,9 +91,15 @@ pub enum Complaint {
     Prover,
     #[error("the question has no goal yet: expected goal ROW first")]
     NoGoal,
+    #[error("no draft is at hand: expected sheet FILE LOW HIGH first")]
+    NoDraft,
+    #[error("the number of an obligation is expected after question: decimal, no leading zero")]
+    NoNumber,
+    #[error("the number of an obligation, or all, is expected after settle, then a domain and a prover")]
+    NoSettling,
     #[error("the line is no UTF-8 text: expected a command")]
     NoText,
-    #[error("no file is named: expected sheet FILE LOW HIGH, or check FILE")]
+    #[error("no file is named: expected sheet FILE LOW HIGH, check FILE or explain FILE")]
     NoFile,
     #[error("low and high are expected after the file, whole numbers from -2147483648 to 2147483647 in their shortest form")]
     Range,
@@ -145,11 +168,37 @@ fn read_sheet(heap: Global, rest: &str) -> Result<Command, Complaint> {
     Ok(Command::Sheet { file, low, high })
 }
 
-fn read_check(heap: Global, rest: &str) -> Result<Command, Complaint> {
+// A file's name, which may have blanks.
+fn read_file(heap: Global, rest: &str) -> Result<String, Complaint> {
     if rest.is_empty() {
         return Err(Complaint::NoFile);
     }
-    Ok(Command::Check(String::from_str(heap, rest)?))
+    Ok(String::from_str(heap, rest)?)
+}
+
+fn read_question(heap: Global, rest: &str) -> Result<Command, Complaint> {
+    let number = read_value::<usize>(heap, rest)?;
+    Ok(Command::Question(number.ok_or(Complaint::NoNumber)?))
+}
+
+// All, or the number of an obligation in its one form.
+fn read_which(heap: Global, word: &str) -> Result<Which, Complaint> {
+    if word == "all" {
+        return Ok(Which::All);
+    }
+    let number = read_value::<usize>(heap, word)?;
+    Ok(Which::One(number.ok_or(Complaint::NoSettling)?))
+}
+
+fn read_settle(heap: Global, rest: &str) -> Result<Command, Complaint> {
+    let (which, names) = rest.split_once(' ').ok_or(Complaint::NoSettling)?;
+    let which = read_which(heap, which)?;
+    let (domain, prover) = names.split_once(' ').ok_or(Complaint::NoSettling)?;
+    Ok(Command::Settle {
+        which,
+        domain: domain.parse::<DomainName>()?,
+        prover: prover.parse::<ProverName>()?,
+    })
 }
 
 pub(crate) fn read_command(heap: Global, line: &str) -> Result<Command, Complaint> {
@@ -163,7 +212,13 @@ pub(crate) fn read_command(heap: Global, line: &str) -> Result<Command, Complain
         "verify" => read_verify(heap, rest),
         "ask" => Ok(Command::Ask(rest.parse::<ProverName>()?)),
         "sheet" => read_sheet(heap, rest),
-        "check" => read_check(heap, rest),
+        "obligations" => bare(Command::Obligations, after),
+        "question" => read_question(heap, rest),
+        "settle" => read_settle(heap, rest),
+        "ready" => bare(Command::Ready, after),
+        "clear" => bare(Command::Clear, after),
+        "check" => Ok(Command::Check(read_file(heap, rest)?)),
+        "explain" => Ok(Command::Explain(read_file(heap, rest)?)),
         _ => Err(Complaint::Unknown),
     }
 }

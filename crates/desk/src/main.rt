@@ -4,24 +4,94 @@
 mod answering;
 mod by_hand;
 mod commands;
+mod explaining;
 mod pictures;
+mod settling;
 mod sheets;
 
-use answering::{Desk, answer_line};
+use answering::{Desk, Then, answer_command, answer_over, hear};
 use by_hand::ByHand;
-use reading::LEAST_RECORDS;
-use records::Record;
-use std::io::{BufRead, BufReader};
+use engine::{Draft, LEAST_RECORDS, Record, make, test};
+use sheets::{Sheet, print_book, print_taken};
+use std::io;
+use std::io::{BufRead, BufReader, Split, Stdin};
+
+// What is typed, a line at a time.
+type Lines = Split<BufReader<Stdin>>;
+
+// Answers lines where no draft is at hand, up to one that asks for a sheet: that sheet, or none at the end.
+fn converse(rt: &HostRuntime, lines: &mut Lines, desk: &mut Desk) -> io::Result<Option<Sheet>> {
+    for line in lines {
+        let bytes = line?;
+        let Some(command) = hear(rt, bytes.as_slice())? else {
+            continue;
+        };
+        if let Then::Sheet(sheet) = answer_command(rt, desk, command)? {
+            return Ok(Some(sheet));
+        }
+    }
+    Ok(None)
+}
+
+// Answers lines over a draft, up to one that asks for another sheet or clears the draft, or to the end, which is no line more.
+fn converse_over(
+    rt: &HostRuntime,
+    lines: &mut Lines,
+    desk: &mut Desk,
+    draft: &mut Draft<'_>,
+) -> io::Result<Then> {
+    for line in lines {
+        let bytes = line?;
+        let Some(command) = hear(rt, bytes.as_slice())? else {
+            continue;
+        };
+        match answer_over(rt, desk, draft, command)? {
+            Then::Line => {}
+            then => return Ok(then),
+        }
+    }
+    Ok(Then::Line)
+}
+
+// Reads a sheet, says how, and answers lines over its draft, then over its book.
+fn with_sheet(
+    rt: &HostRuntime,
+    lines: &mut Lines,
+    desk: &mut Desk,
+    records: &mut [Record],
+    sheet: Sheet,
+) -> io::Result<Option<Sheet>> {
+    let tested = test(sheet.text.as_slice(), sheet.low, sheet.high, records);
+    let mut draft = make(sheet.text.as_slice(), sheet.low, sheet.high, records);
+    print_taken(rt, tested, &draft)?;
+    if tested.is_err() {
+        return converse(rt, lines, desk);
+    }
+    match converse_over(rt, lines, desk, &mut draft)? {
+        Then::Line => Ok(None),
+        Then::Sheet(next) => Ok(Some(next)),
+        Then::Clear => {
+            let book = draft.clear();
+            print_book(rt, &book)?;
+            converse(rt, lines, desk)
+        }
+    }
+}
 
 fn run(rt: &HostRuntime) -> anyhow::Result<()> {
     let heap = rt.alloc();
     let mut desk = Desk {
         question: ByHand::new(heap),
-        records: vec![in heap; Record::zero(); LEAST_RECORDS]?,
+        scratch: vec![in heap; Record::zero(); LEAST_RECORDS]?,
     };
-    for line in BufReader::new(heap, rt.stdin())?.split(heap, b'\n') {
-        let bytes = line?;
-        answer_line(rt, &mut desk, bytes.as_slice())?;
+    let mut records = vec![in heap; Record::zero(); LEAST_RECORDS]?;
+    let mut lines = BufReader::new(heap, rt.stdin())?.split(heap, b'\n');
+    let mut next = converse(rt, &mut lines, &mut desk)?;
+    for _ in 0..u64::MAX {
+        let Some(sheet) = next else {
+            return Ok(());
+        };
+        next = with_sheet(rt, &mut lines, &mut desk, &mut records, sheet)?;
     }
     Ok(())
 }

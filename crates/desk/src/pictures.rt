@@ -1,4 +1,4 @@
-use language::Refusal;
+use engine::Refusal;
 use letters::{MOST_BYTES, Misspelt, Token, cut};
 use showing::{Line, expected, kinds_text, line_at, marked};
 use std::alloc::{AllocError, Global};
@@ -23,7 +23,7 @@ fn shown(byte: u8) -> char {
     }
 }
 
-fn shown_text(heap: Global, bytes: &[u8]) -> Result<String, AllocError> {
+pub(crate) fn shown_text(heap: Global, bytes: &[u8]) -> Result<String, AllocError> {
     bytes.iter().map(|byte| shown(*byte)).collect(heap)
 }
 
@@ -68,7 +68,7 @@ fn full_sentence(text: &[u8]) -> &'static str {
         Err(Misspelt::Length) => "a sheet has 16,384 bytes at most",
         Err(Misspelt::Brackets(_)) => "64 brackets are open before this one, and no more may be",
         _ =>
-            "here a sheet passes 32 rules, 4 lists or 8 numbers in a rule, 1,024 expressions or 128 conditions",
+            "here a sheet passes 32 rules, 4 lists, 8 numbers, 16 quantities or 24 facts in a rule, 1,024 expressions, 128 conditions or 128 obligations",
     }
 }
 
@@ -81,12 +81,21 @@ fn sentence(heap: Global, text: &[u8], refusal: Refusal) -> Result<String, Alloc
             "this name is unknown here, declared before, of the wrong sort (a list for a number, or the other way round), or called with a wrong number of arguments",
         ),
         Refusal::Full { place: _ } => String::from_str(heap, full_sentence(text)),
+        Refusal::Large { place: _ } => String::from_str(
+            heap,
+            "a side that is compared here, taken whole, has a number outside -1,000,000 to 1,000,000",
+        ),
         _ => String::from_str(heap, refusal.word()),
     }
 }
 
 // The line of a place and a mark under it; of a long line, what stands near the place.
-fn print_line(rt: &HostRuntime, text: &[u8], line: Line, place: usize) -> io::Result<()> {
+pub(crate) fn print_line(
+    rt: &HostRuntime,
+    text: &[u8],
+    line: Line,
+    place: usize,
+) -> io::Result<()> {
     let heap = rt.alloc();
     let start = line.start.max(place.saturating_sub(MOST_BEFORE));
     let end = line.end.min(start.saturating_add(MOST_SHOWN));
