@@ -1,0 +1,9 @@
+pub mod Ending
+pub mod Steps
+pub mod Here
+pub mod Parts
+pub mod Arms
+pub mod Spending
+pub mod Arguments
+pub mod Bodies
+pub mod Called
