@@ -1,5 +1,6 @@
 -- The rules of a sheet one after another: their heads, and how many there are.
-use Rattle.std.proofs.Common.{◌≡◌, ℕ, zero, suc, ◌+◌, ◌≤◌, true, false, List, [], ◌∷◌, ◌++◌, length, Some, None, map, Option, sym, refl, ap, ◌∙◌, arith}
+use Rattle.std.proofs.Common.{◌≡◌, ℕ, zero, suc, ◌+◌, ◌<◌, ◌≤◌, true, false, List, [], ◌∷◌, ◌++◌, length, Some, None, map, Option, sym, refl, ap, ◌∙◌, inl, inr, arith}
+use Rattle.std.proofs.lemmas.Bool.{cases_lt}
 use Rattle.std.proofs.lemmas.List.{append_assoc, append-nil, length-map, map-append}
 use Rattle.std.proofs.lemmas.Option.{slice_get_past}
 use Rattle.std.specs.List.{slice_get, range_with_len, filter_map, cons_option}
@@ -14,6 +15,7 @@ use Rattle.naming.specs.declared.taken.Ruled.{Ruled}
 use Rattle.naming.specs.Calls.{ruled_of}
 use Rattle.naming.specs.Sources.{source_of, node_in, rules_of}
 use Rattle.naming.proofs.Grown.{rule-here, rule-not}
+use Rattle.records.proofs.Standing.{nth-front, nth_end}
 use Rattle.naming.specs.Least.{merged, least}
 use Rattle.naming.proofs.Smallest.{least-both}
 use Rattle.counting.specs.Counts.{head_over, heads_over, keywords, listed, places_of, rules_over}
@@ -59,6 +61,23 @@ rules-suc s ns at = refl
 
 keywords-suc : (s : Source) (ns : List Node) (at : ℕ) → keywords (rules_to s (suc at) ns) ≡ keywords (rules_to s at ns) ++ keywords (rule_in s (raw_at s at ns) (slice_get ns at))
 keywords-suc s ns at = ap keywords (rules-suc s ns at) ∙ map-append (λ (r : Raw.Rule). r.keyword.place) (rules_to s at ns) (rule_in s (raw_at s at ns) (slice_get ns at))
+
+keywords-front : (s : Source) (ns : List Node) (p i k n : ℕ) → k ≤ n → slice_get (keywords (rules_to s k ns)) i ≡ Some p → slice_get (keywords (rules_to s n ns)) i ≡ Some p
+keywords-front s ns p i k zero h e = let z : 0 ≡ k = omega arith in ap (λ m. slice_get (keywords (rules_to s m ns)) i) z ∙ e
+keywords-front s ns p i k (suc n) h e = elim (cases_lt n k) [
+  | inl l ↦ let z : suc n ≡ k = omega arith in ap (λ m. slice_get (keywords (rules_to s m ns)) i) z ∙ e
+  | inr l ↦ ap (λ ps. slice_get ps i) (keywords-suc s ns n) ∙ nth-front (keywords (rules_to s n ns)) (keywords (rule_in s (raw_at s n ns) (slice_get ns n))) i p (keywords-front s ns p i k n l e)
+]
+
+-- the rule after 32 others
+pub rules-past : (s : Source) (ns : List Node) (at n : ℕ) (x : Raw.Rule) → rule_in s (raw_at s at ns) (slice_get ns at) ≡ x ∷ [] → length (rules_to s at ns) ≡ 32 → at < n → Some x.keyword.place ≡ least (rules_over (rules_to s n ns))
+unfolding rules_over
+rules-past s ns at n x e few h =
+    let ps = keywords (rules_to s at ns) in
+    let k : length ps ≡ 32 = length-map (rules_to s at ns) (λ (r : Raw.Rule). r.keyword.place) ∙ few in
+    let here : slice_get (keywords (rules_to s (suc at) ns)) 32 ≡ Some x.keyword.place =
+    ap (λ qs. slice_get qs 32) (keywords-suc s ns at ∙ ap (λ rs. ps ++ keywords rs) e) ∙ ap (λ i. slice_get (ps ++ x.keyword.place ∷ []) i) (sym k) ∙ nth_end ps x.keyword.place in
+    sym (ap (λ o. least (listed o)) (keywords-front s ns x.keyword.place 32 (suc at) n (omega arith) here) ∙ sym (least-listed (Some x.keyword.place)))
 
 range_snoc : (a n : ℕ) → range_with_len a (suc n) ≡ range_with_len a n ++ (a + n) ∷ []
 range_snoc a zero = ap (λ k. k ∷ []) (omega arith)

@@ -119,3 +119,5 @@ module _ {A X Y : Type 0} where
       go (Err w) t = record { faulty = t.faulty; came = (t.came.0, λ f h. ap (λ a. then a (λ x j. give (g x) (look s) j)) (t.came.1 f h)); place = t.place }
 
 -- what a value stands for may be left unsaid
+pub taken-any : {A B X : Type 0} {R : Held → A → X → Type 0} {a : A} {b : B} {p : ℕ → P X} {s s' : Held} → Went R (Ok a) p s s' → Went (Any {A = B} {X = X}) (Ok b) p s s'
+taken-any w = record { lender = w.lender; size = w.size; ahead = w.ahead; told = record { val = w.told.val; rel = tt; came = w.told.came; lasts = w.told.lasts } }

@@ -1,5 +1,5 @@
 -- Steps of a loop that tests the numbers below a bound.
-use Rattle.std.proofs.Common.{◌≡◌, ℕ, zero, suc, ◌+◌, ◌<◌, Bool, true, false, cond, ◌&&◌, List, [], ◌∷◌, length, get_or, map, sym, refl, ap, ap₂, ◌∙◌, ⊎_elim, add-one, arith}
+use Rattle.std.proofs.Common.{◌≡◌, ℕ, zero, suc, ◌+◌, ◌<◌, ◌≤◌, Bool, true, false, cond, ◌&&◌, List, [], ◌∷◌, length, get_or, map, sym, refl, ap, ap₂, ◌∙◌, ⊎_elim, add-one, arith}
 use Rattle.std.specs.List.{list_all, filter, range_with_len}
 use Rattle.std.proofs.lemmas.List.Folds.{list_all-append, list_all-map}
 use Rattle.std.proofs.lemmas.List.FromFn.{map-range_with_len_more}
@@ -74,3 +74,8 @@ pub count_flags : (flags : List Bool) → length (filter (λ b. b) flags) ≡ co
 count_flags [] = count_none
 count_flags (true ∷ bs) = ap suc (count_flags bs) ∙ sym (count_front (λ j. get_or (true ∷ bs) j false) (length bs))
 count_flags (false ∷ bs) = count_flags bs ∙ sym (count_front (λ j. get_or (false ∷ bs) j false) (length bs))
+
+pub count-bound : (p : ℕ → Bool) (n : ℕ) → count_below n p ≤ n
+unfolding count_below
+count-bound p zero = omega arith
+count-bound p (suc n) = let h = count-bound p n in grind arith

@@ -11,7 +11,7 @@ use Rattle.records.specs.declared.laid.Laid.{Laid}
 use Rattle.language.specs.declared.duty.Duty.{Duty}
 use Rattle.records.specs.Laying.{columns_of}
 use Rattle.records.specs.Owing.{owed_at, row_at, Owes, OwesFrom, OwesAll}
-use Rattle.records.specs.Added.{RowPut, RowsPut, HeaderPut}
+use Rattle.records.specs.Added.{SameTables, RowPut, RowsPut, HeaderPut}
 use Rattle.records.specs.Columns.{zero_record, first_slots, no_condition, no_item, no_entry}
 use Rattle.records.specs.Slots.{slots_kept}
 use Rattle.records.specs.Kept.{laid, same_columns}
@@ -43,6 +43,12 @@ module _ (r : List Record) (at : ℕ) (new d : Record) (within : at < length r) 
   columns-kept n c i p e lender k =
       same_columns r at lender new (slots_kept (λ r. r.nodes) Blank r new d at n within k.nodes) (slots_kept (λ r. r.conditions) no_condition r new d at c within k.conditions)
       (slots_kept (λ r. r.items) no_item r new d at i within k.items) (slots_kept (λ r. r.params) Number r new d at p within k.params) (slots_kept (λ r. r.entries) no_entry r new d at e within k.entries)
+
+pub same_tables : {t : Laid} → SameTables t t
+same_tables = record { columns = refl; length = refl; owed = refl }
+
+pub tables_then : {t u v : Laid} → SameTables t u → SameTables u v → SameTables t v
+tables_then a b = record { columns = b.columns ∙ a.columns; length = b.length ∙ a.length; owed = b.owed ∙ a.owed }
 
 -- obligations stay where their rows and headers do
 pub owes_kept : (r s : List Record) (k : ℕ) (os : List Obligation) → ((i : ℕ) → i < k + length os → owed_at s i ≡ owed_at r i) → ((i : ℕ) → i < 25 * (k + length os) → row_at s i ≡ row_at r i) → OwesFrom r k os → OwesFrom s k os

@@ -16,13 +16,13 @@ use Rattle.records.specs.declared.condition.Condition.{Condition}
 use Rattle.records.specs.declared.laid.Laid.{Laid}
 use Rattle.records.specs.Columns.{Columns, no_condition}
 use Rattle.records.specs.Tables.{condition_in, conditions_in}
-use Rattle.walking.specs.Owing.{Pays, Breaks}
+use Rattle.walking.specs.Owing.{Spacious, Pays, Breaks}
 use Rattle.std.proofs.lemmas.Option.{slice_get-get_or}
 use Rattle.terms.specs.declared.rowlist.Rows.{Rows}
 use Rattle.terms.specs.Listed.{list_of}
 use Rattle.walking.specs.Sides.{RowsAt, rows_in}
 use Rattle.walking.proofs.Owings.{pays-none, pays-then, breaks-then, breaks-first}
-use Rattle.records.specs.Laying.{owed_of}
+use Rattle.records.specs.Laying.{columns_of, owed_of}
 use Rattle.records.proofs.Stretches.{cut}
 use Rattle.records.specs.Tables.{stretch}
 
@@ -98,3 +98,7 @@ module _ (p : Columns) (ts : List Term) (r : Term) where
   pub rows-as-far : (from to : ℕ) → rows_in p ts r from to ≡ rows_in p ts r from (min to (length p.conditions.entries))
   unfolding rows_in conditions_in
   rows-as-far from to = ap (λ cs. flat_map (condition_rows ts r) (map (condition_in p.items.entries) cs)) (as_far p.conditions.entries from to)
+
+-- a table with the same columns has as many records
+pub spacious-on : (t u : Laid) → columns_of u ≡ columns_of t → Spacious t → Spacious u
+spacious-on t u e s = let r = ap (λ (c : Columns). c.nodes.room) e in omega arith
