@@ -30,7 +30,8 @@ pub fn read_u32(heap: Global, word: &str) -> Result<u32, Misread>
     ensures reads { IfOk result (λ n. word.now ≡ decimal n) }
     ensures refuses { IfErr result (λ e. NoNumber e word.now) }
 {
-    read_value::<u32>(heap, word)?.ok_or(Misread::Number)
+    let n = read_value::<u32>(heap, word)?.ok_or(Misread::Number)?;
+    Ok(n)
 }
 
 // The numbers that a text writes, with a blank between each two.

@@ -18,9 +18,10 @@ impl<'r> Laid<'r> {
         ensures records { records_of result ≡ records.old }
         ensures owed { owed_of result ≡ 0 }
     {
+        let counts = Counts::default();
         Laid {
             records,
-            counts: Counts::default(),
+            counts,
             owed: 0,
         }
     }
