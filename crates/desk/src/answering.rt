@@ -7,6 +7,7 @@ use crate::sheets::{
     Sheet, Statement, listing, print_listing, print_question, print_ready, print_refusal,
     print_settlings, read_front, state,
 };
+use arrayvec::ArrayVec;
 use asking::linear_certificate;
 use domains::{Fault, Linear, Modes, verified};
 use engine::{Draft, Listed, Record, Refusal, make, room, test};
@@ -41,7 +42,8 @@ enum Answer {
     Silence,
     Help,
     Outcome(Result<(), Fault>),
-    Proposal(Option<Vec<u32>>),
+    // In fixed memory, since asking allocates nothing.
+    Proposal(Option<ArrayVec<u32, MOST_NUMBERS>>),
     Listing(Vec<Listed>),
     Question(Statement),
     Refused(Refusal),
@@ -84,7 +86,7 @@ fn verify(question: &ByHand, domain: DomainName, certificate: &[u32]) -> Result<
 }
 
 // A match of two arms: a `dyn` value would be picked by the same match, and what `linear_certificate` promises would be lost.
-fn ask(heap: Global, question: &ByHand, prover: ProverName) -> Result<Answer, Complaint> {
+fn ask(question: &ByHand, prover: ProverName) -> Result<Answer, Complaint> {
     let asked = question.asked().ok_or(Complaint::NoGoal)?;
     let mut buffer = [0u32; MOST_NUMBERS];
     let count = match prover {
@@ -94,7 +96,8 @@ fn ask(heap: Global, question: &ByHand, prover: ProverName) -> Result<Answer, Co
     let Some(count) = count else {
         return Ok(Answer::Proposal(None));
     };
-    let numbers = buffer.iter().copied().take(count).collect(heap)?;
+    let mut numbers = ArrayVec::from(buffer);
+    numbers.truncate(count);
     Ok(Answer::Proposal(Some(numbers)))
 }
 
@@ -149,7 +152,7 @@ fn obey(rt: &HostRuntime, desk: &mut Desk, command: Command) -> Result<Answer, C
             domain,
             certificate,
         } => verify(by_hand, domain, certificate.as_slice()),
-        Command::Ask(prover) => ask(rt.alloc(), by_hand, prover),
+        Command::Ask(prover) => ask(by_hand, prover),
         Command::Check(file) => check(rt, &mut desk.scratch, file),
         Command::Explain(file) => explain(rt, &mut desk.scratch, file),
         Command::Obligations

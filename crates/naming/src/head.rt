@@ -13,7 +13,7 @@ pub struct Param {
 #[derive(Clone, Copy, Drop)]
 pub struct Params<'t> {
     pub sheet: Written<'t>,
-    pub(crate) next: Option<usize>,
-    pub(crate) rest: usize,
+    pub next: Option<usize>,
+    pub rest: usize,
     ghost within: { (unwrap_or next 0 ≤ 16384) × (rest ≤ 16384) },
 }
