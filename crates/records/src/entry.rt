@@ -1,4 +1,4 @@
-use crate::stretch::Stretch;
+pub use crate::stretch::Stretch;
 
 // A parameter of a rule: a number, or a list with its length.
 #[derive(Clone, Copy, Debug, PartialEq, Eq)]
