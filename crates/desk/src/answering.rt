@@ -1,7 +1,9 @@
 use crate::by_hand::ByHand;
+use crate::calling::{Call, Ran, print_ran, run_call};
 use crate::commands::{Command, Complaint, DomainName, ProverName, read_command};
 use crate::explaining::{Explained, explain_all, print_explained};
 use crate::pictures::print_check;
+use crate::pricing::{Priced, price, print_priced};
 use crate::settling::{Settling, settle};
 use crate::sheets::{
     Sheet, Statement, listing, print_listing, print_question, print_ready, print_refusal,
@@ -10,7 +12,7 @@ use crate::sheets::{
 use arrayvec::ArrayVec;
 use asking::linear_certificate;
 use domains::{Fault, Linear, Modes, verified};
-use engine::{Draft, Listed, Record, Refusal, make, room, test};
+use engine::{Book, Draft, Listed, Record, Refusal, make, room, test};
 use provers::{Empty, MOST_NUMBERS, Prover};
 use std::alloc::Global;
 use std::io;
@@ -19,6 +21,7 @@ use std::str::from_utf8;
 const HELP: &'static str = "commands, one a line, words separated by single blanks:
   check FILE               read the sheet in a file, and show where it is refused
   explain FILE             show what the sheet in a file owes, in its own names, and what is settled of it
+  price FILE RULE FUEL N .. / S:L .. / C ..   settle the sheet in a file, run a rule of it, and say what came out
   sheet FILE LOW HIGH      read the sheet in a file for numbers from LOW to HIGH
   obligations              list what the sheet owes
   question K               show the facts and the goal of obligation K
@@ -26,6 +29,8 @@ const HELP: &'static str = "commands, one a line, words separated by single blan
   settle all DOMAIN PROVER the same for each obligation in turn
   ready                    say whether every guard is settled
   clear                    make a book of the sheet, open or closed
+  run RULE FUEL N .. / S:L .. / C ..   run a rule of the book: numbers, list parts by start and length, cells
+  full RULE FUEL N .. / S:L .. / C ..  the same, but every check is made
   question-new             begin a new question
   fact ROW                 add a fact to the question
   goal ROW                 set the question's goal
@@ -49,6 +54,7 @@ enum Answer {
     Refused(Refusal),
     Settled(Vec<Settling>),
     Ready(Result<(), Refusal>),
+    Ran(Ran),
     Check {
         file: String,
         text: Vec<u8>,
@@ -58,6 +64,11 @@ enum Answer {
         file: String,
         text: Vec<u8>,
         owed: Vec<Explained>,
+    },
+    Priced {
+        file: String,
+        text: Vec<u8>,
+        priced: Priced,
     },
 }
 
@@ -122,6 +133,23 @@ fn explain(rt: &HostRuntime, records: &mut [Record], file: String) -> Result<Ans
     Ok(Answer::Explained { file, text, owed })
 }
 
+// Prices by a rule of the sheet in a file; where the sheet is refused, that is shown as a check shows it.
+fn priced(
+    rt: &HostRuntime,
+    records: &mut [Record],
+    file: String,
+    call: &Call,
+) -> Result<Answer, Complaint> {
+    let text = read_front(rt, file.as_str())?;
+    match price(rt.alloc(), text.as_slice(), records, call)? {
+        Ok(priced) => Ok(Answer::Priced { file, text, priced }),
+        Err(refusal) => {
+            let read = Err(refusal);
+            Ok(Answer::Check { file, text, read })
+        }
+    }
+}
+
 // The obligation of the draft with a number.
 fn question(heap: Global, draft: &Draft<'_>, number: usize) -> Result<Answer, Complaint> {
     let mut lent = room();
@@ -155,12 +183,14 @@ fn obey(rt: &HostRuntime, desk: &mut Desk, command: Command) -> Result<Answer, C
         Command::Ask(prover) => ask(by_hand, prover),
         Command::Check(file) => check(rt, &mut desk.scratch, file),
         Command::Explain(file) => explain(rt, &mut desk.scratch, file),
+        Command::Price { file, call } => priced(rt, &mut desk.scratch, file, &call),
         Command::Obligations
         | Command::Question(_)
         | Command::Settle { .. }
         | Command::Ready
         | Command::Clear
         | Command::Sheet { .. } => Err(Complaint::NoDraft),
+        Command::Run(..) => Err(Complaint::NoBook),
     }
 }
 
@@ -181,6 +211,19 @@ fn obey_over(
             prover,
         } => Ok(Answer::Settled(settle(heap, draft, which, domain, prover)?)),
         Command::Ready => Ok(Answer::Ready(draft.ready())),
+        other => obey(rt, desk, other),
+    }
+}
+
+// Answers over a book.
+fn obey_with(
+    rt: &HostRuntime,
+    desk: &mut Desk,
+    book: &Book<'_>,
+    command: Command,
+) -> Result<Answer, Complaint> {
+    match command {
+        Command::Run(call, checks) => Ok(Answer::Ran(run_call(rt.alloc(), book, &call, checks)?)),
         other => obey(rt, desk, other),
     }
 }
@@ -215,6 +258,7 @@ fn print_answer(rt: &HostRuntime, answer: Result<Answer, Complaint>) -> io::Resu
         Ok(Answer::Refused(refusal)) => print_refusal(rt, refusal),
         Ok(Answer::Settled(settlings)) => print_settlings(rt, settlings.as_slice()),
         Ok(Answer::Ready(answer)) => print_ready(rt, answer),
+        Ok(Answer::Ran(ran)) => print_ran(rt, &ran),
         Ok(Answer::Check { file, text, read }) => print_check(
             rt,
             file.as_str(),
@@ -226,6 +270,12 @@ fn print_answer(rt: &HostRuntime, answer: Result<Answer, Complaint>) -> io::Resu
             file.as_str(),
             text.as_slice(),
             owed.as_slice(),
+        ),
+        Ok(Answer::Priced { file, text, priced }) => print_priced(
+            rt,
+            file.as_str(),
+            text.as_slice(),
+            &priced,
         ),
         Err(complaint) => println!(rt; "error: {complaint}"),
     }
@@ -275,6 +325,21 @@ pub(crate) fn answer_over(
         return Ok(Then::Clear);
     }
     let answer = obey_over(rt, desk, draft, command);
+    print_answer(rt, answer)?;
+    Ok(Then::Line)
+}
+
+// Answers a command over a book.
+pub(crate) fn answer_with(
+    rt: &HostRuntime,
+    desk: &mut Desk,
+    book: &Book<'_>,
+    command: Command,
+) -> io::Result<Then> {
+    if let Command::Sheet { file, low, high } = command {
+        return answer_open(rt, file.as_str(), low, high);
+    }
+    let answer = obey_with(rt, desk, book, command);
     print_answer(rt, answer)?;
     Ok(Then::Line)
 }

@@ -1,3 +1,4 @@
+use crate::calling::{Call, Checks, read_call};
 use notation::{Misread, read_numbers, read_row, read_value};
 use rows::Row;
 use std::alloc::{AllocError, AllocFailed, Global};
@@ -74,6 +75,11 @@ pub enum Command {
     },
     Ready,
     Clear,
+    Run(Call, Checks),
+    Price {
+        file: String,
+        call: Call,
+    },
     Check(String),
     Explain(String),
 }
@@ -81,7 +87,7 @@ pub enum Command {
 // Why a line is no command, or has no meaning where it stands.
 #[derive(Debug, Drop, Error)]
 pub enum Complaint {
-    #[error("no such command: expected sheet, obligations, question, settle, ready, clear, check, explain, question-new, fact, goal, verify, ask or help")]
+    #[error("no such command: expected sheet, obligations, question, settle, ready, clear, run, full, check, explain, price, question-new, fact, goal, verify, ask or help")]
     Unknown,
     #[error("something stands after the command: expected the command alone")]
     Bare,
@@ -93,13 +99,17 @@ pub enum Complaint {
     NoGoal,
     #[error("no draft is at hand: expected sheet FILE LOW HIGH first")]
     NoDraft,
+    #[error("no book is at hand: expected clear first")]
+    NoBook,
+    #[error("a run is expected as RULE FUEL N .. / S:L .. / C ..: whole numbers in their shortest form")]
+    NoCall,
     #[error("the number of an obligation is expected after question: decimal, no leading zero")]
     NoNumber,
     #[error("the number of an obligation, or all, is expected after settle, then a domain and a prover")]
     NoSettling,
     #[error("the line is no UTF-8 text: expected a command")]
     NoText,
-    #[error("no file is named: expected sheet FILE LOW HIGH, check FILE or explain FILE")]
+    #[error("no file is named: expected sheet FILE LOW HIGH, check FILE, explain FILE or price FILE and a run")]
     NoFile,
     #[error("low and high are expected after the file, whole numbers from -2147483648 to 2147483647 in their shortest form")]
     Range,
@@ -176,6 +186,14 @@ fn read_file(heap: Global, rest: &str) -> Result<String, Complaint> {
     Ok(String::from_str(heap, rest)?)
 }
 
+// A file's name without blanks, and a run.
+fn read_price(heap: Global, rest: &str) -> Result<Command, Complaint> {
+    let (file, call) = rest.split_once(' ').ok_or(Complaint::NoFile)?;
+    let file = read_file(heap, file)?;
+    let call = read_call(heap, call)?;
+    Ok(Command::Price { file, call })
+}
+
 fn read_question(heap: Global, rest: &str) -> Result<Command, Complaint> {
     let number = read_value::<usize>(heap, rest)?;
     Ok(Command::Question(number.ok_or(Complaint::NoNumber)?))
@@ -217,6 +235,9 @@ pub(crate) fn read_command(heap: Global, line: &str) -> Result<Command, Complain
         "settle" => read_settle(heap, rest),
         "ready" => bare(Command::Ready, after),
         "clear" => bare(Command::Clear, after),
+        "run" => Ok(Command::Run(read_call(heap, rest)?, Checks::Open)),
+        "full" => Ok(Command::Run(read_call(heap, rest)?, Checks::All)),
+        "price" => read_price(heap, rest),
         "check" => Ok(Command::Check(read_file(heap, rest)?)),
         "explain" => Ok(Command::Explain(read_file(heap, rest)?)),
         _ => Err(Complaint::Unknown),

@@ -3,15 +3,17 @@
 
 mod answering;
 mod by_hand;
+mod calling;
 mod commands;
 mod explaining;
 mod pictures;
+mod pricing;
 mod settling;
 mod sheets;
 
-use answering::{Desk, Then, answer_command, answer_over, hear};
+use answering::{Desk, Then, answer_command, answer_over, answer_with, hear};
 use by_hand::ByHand;
-use engine::{Draft, LEAST_RECORDS, Record, make, test};
+use engine::{Book, Draft, LEAST_RECORDS, Record, make, test};
 use sheets::{Sheet, print_book, print_taken};
 use std::io;
 use std::io::{BufRead, BufReader, Split, Stdin};
@@ -53,6 +55,25 @@ fn converse_over(
     Ok(Then::Line)
 }
 
+// Answers lines over a book, up to one that asks for a sheet: that sheet, or none at the end.
+fn converse_with(
+    rt: &HostRuntime,
+    lines: &mut Lines,
+    desk: &mut Desk,
+    book: &Book<'_>,
+) -> io::Result<Option<Sheet>> {
+    for line in lines {
+        let bytes = line?;
+        let Some(command) = hear(rt, bytes.as_slice())? else {
+            continue;
+        };
+        if let Then::Sheet(sheet) = answer_with(rt, desk, book, command)? {
+            return Ok(Some(sheet));
+        }
+    }
+    Ok(None)
+}
+
 // Reads a sheet, says how, and answers lines over its draft, then over its book.
 fn with_sheet(
     rt: &HostRuntime,
@@ -73,7 +94,7 @@ fn with_sheet(
         Then::Clear => {
             let book = draft.clear();
             print_book(rt, &book)?;
-            converse(rt, lines, desk)
+            converse_with(rt, lines, desk, &book)
         }
     }
 }

@@ -6,3 +6,6 @@ pub mod Opened
 pub mod Proving
 pub mod Settled
 pub mod Ready
+pub mod Heads
+pub mod Runnable
+pub mod Entered

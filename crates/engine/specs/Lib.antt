@@ -4,6 +4,7 @@ pub mod Taking
 pub mod Listing
 pub mod Lending
 pub mod Settling
+pub mod Sheeted
 pub mod Guarding
 pub mod Clearing
 pub mod Promised

@@ -1,6 +1,7 @@
 ghost use Rattle.std.specs.Prelude.{◌≤◌};
 ghost use Rattle.std.proofs.Props.{props};
 ghost use Rattle.engine.specs.Kept.{Kept, holds_prop};
+ghost use Rattle.engine.specs.Sheeted.{Sheeted};
 
 use language::MOST_OBLIGATIONS;
 use reading::Sizes;
@@ -22,4 +23,5 @@ pub struct Draft<'r> {
     marks: [bool; MOST_OBLIGATIONS],
     ghost few: { sizes.owed ≤ 128 },
     ghost kept: { Kept low high records.now sizes.owed marks } by { Prim.hlevel (props, holds_prop) },
+    ghost sheeted: { ∥ Sheeted low high records.now sizes marks ∥₁ },
 }

@@ -10,7 +10,7 @@ pub mod listed;
 pub use book::Book;
 pub use draft::Draft;
 pub use draft::making::{make, test};
-pub use language::{Check, Duty, Refusal};
+pub use language::{Check, Duty, End, Ending, Part, Refusal};
 pub use lending::room;
 pub use listed::Listed;
 pub use reading::LEAST_RECORDS;

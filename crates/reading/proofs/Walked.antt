@@ -17,9 +17,12 @@ use Rattle.language.specs.declared.refusal.Refusal.TheVariants.{Full, Range}
 use Rattle.language.specs.Drafts as Drafts
 use Rattle.language.specs.Tree.{Rule}
 use Rattle.language.specs.Walking.{Note, owes, fault, Obligation, walk_rules, obligations_of, first_fault}
+use Rattle.records.specs.declared.entry.Entry.{Entry}
+use Rattle.records.specs.declared.entry.Param.{Param}
 use Rattle.records.specs.declared.record.Record.{Record}
 use Rattle.records.specs.declared.laid.Laid.{Laid}
-use Rattle.records.specs.Columns.{Columns, tables_by, tables_in, params_in, entries_in, no_entry}
+use Rattle.records.specs.Tables.{Tables}
+use Rattle.records.specs.Columns.{Column, Columns, tables_by, tables_in, params_in, entries_in, no_entry}
 use Rattle.records.specs.Laying.{columns_of, records_of, owed_of}
 use Rattle.records.specs.Owing.{OwesFrom}
 use Rattle.records.specs.Rules.{RulesStand}
@@ -49,6 +52,18 @@ unfolding walk_rules with_bodies
 with-bodies-length R [] n = refl
 with-bodies-length R (r ∷ rs) n = ap suc (with-bodies-length R rs _)
 
+bodies-length : (R rs : List Rule) (n : ℕ) → length (walk_rules R n rs).bodies ≡ length rs
+unfolding walk_rules
+bodies-length R [] n = refl
+bodies-length R (r ∷ rs) n = ap suc (bodies-length R rs _)
+
+-- the bodies of rules that stand in tables lie below as many positions as there are nodes
+bodies-below : (t : Tables) (ps : List Param) (lo : ℕ) (es : List Entry) (rs : List Rule) → RulesStand t ps lo es rs → length t.nodes ≤ 16384 → AllByRecursion (λ (e : Entry). e.body < 16384) es
+bodies-below t ps lo [] [] s h = tt
+bodies-below t ps lo [] (r ∷ rs) s h = absurd s
+bodies-below t ps lo (e ∷ es) [] s h = absurd s
+bodies-below t ps lo (e ∷ es) (r ∷ rs) s h = let b = s.0.below in (omega (arith, b), bodies-below t ps _ es rs s.1 h)
+
 -- where no fault is noted, each obligation has one of the first 128 numbers
 numbers-low : (ns : List Note) → first_fault ns ≡ None → AllByRecursion (λ (o : Obligation). o.number < 128) (obligations_of ns)
 unfolding first_fault obligations_of
@@ -66,8 +81,8 @@ few-from records k [] w a h = omega arith
 few-from records k (o ∷ os) w a h = let n = w.0.number in let z = few-from records (suc k) os w.1 a.1 (omega (arith, a.0)) in omega arith
 
 -- what the walk leaves is held by the records
-pub holds : (t u : Laid) (rules : List Rule) (sizes : Sizes) (low high : ℤ) → WalkedWell rules t u → sizes.rules ≡ length (columns_of u).entries.entries → sizes.owed ≡ owed_of u → Holds (records_of u) sizes (walked low high rules)
-holds t u rules sizes low high w e f =
+pub holds : (t u : Laid) (rules : List Rule) (sizes : Sizes) (low high : ℤ) → WalkedWell rules t u → Ruled (columns_of t) rules → length (columns_of t).nodes.entries ≤ 16384 → sizes.rules ≡ length (columns_of u).entries.entries → sizes.owed ≡ owed_of u → Holds (records_of u) sizes (walked low high rules)
+holds t u rules sizes low high w d n e f =
     let r = records_of u in let w2 = walk_rules rules 0 rules in let rs = with_bodies rules w2.bodies in
     let k : sizes.rules ≡ u.counts.entries = e ∙ length-slots (λ r. r.entries) no_entry r u.counts.entries in
     let a : RulesStand (tables_in r) (params_in r) 0 (entries_in r sizes.rules) rs = subst (λ m. RulesStand (tables_in r) (params_in r) 0 (entries_in r m) rs) (sym k) (stand_in u 0 rs w.stand) in record {
@@ -77,6 +92,13 @@ holds t u rules sizes low high w e f =
       owed = f ∙ w.count;
       owes = w.owes;
       few = omega (arith, few-from r 0 (obligations_of w2.notes) w.owes (numbers-low w2.notes w.faultless) (omega arith));
+      small = record {
+        room = (let x = u.within.entries in omega (arith, k, x));
+        below = subst (λ m. AllByRecursion (λ (e : Entry). e.body < 16384) (entries_in r m)) (sym k)
+            (subst (λ (es : Column Entry). AllByRecursion (λ (e : Entry). e.body < 16384) es.entries) (sym w.entries) (bodies-below (tables_by (columns_of t)) (columns_of t).params.entries 0 (columns_of t).entries.entries rules d.stand n));
+        heads = d.few;
+        bodies = bodies-length rules rules 0;
+      };
     }
 
 -- in a range, only the walk refuses rules

@@ -1,5 +1,6 @@
 -- What an answer says of the records after it.
-use Rattle.std.specs.Prelude.{◌≡◌, ℕ, ◌≤◌, List, length, replicate, ℤ, Some, None, Ok, Err, Result}
+use Rattle.std.specs.Prelude.{◌≡◌, ℕ, ◌*◌, ◌<◌, ◌≤◌, List, length, replicate, ℤ, Some, None, Ok, Err, Result}
+use Rattle.std.specs.List.{AllByRecursion}
 use Rattle.language.specs.declared.refusal.Refusal.{Refusal}
 use Rattle.language.specs.declared.refusal.Refusal.TheVariants.{Name, Full}
 use Rattle.language.specs.Drafts as Drafts
@@ -9,6 +10,7 @@ use Rattle.grammar.specs.Raw as Raw
 use Rattle.naming.specs.Faults.{name_fault}
 use Rattle.counting.specs.Counts.{count_fault}
 use Rattle.resolving.specs.Resolving.{sheet_of}
+use Rattle.records.specs.declared.entry.Entry.{Entry}
 use Rattle.records.specs.declared.record.Record.{Record}
 use Rattle.records.specs.Columns.{zero_record, tables_in, params_in, entries_in}
 use Rattle.records.specs.Owing.{OwesAll}
@@ -18,6 +20,13 @@ use Rattle.walking.specs.Walked.{with_bodies}
 use Rattle.reading.specs.declared.sizes.Sizes.{Sizes}
 use Rattle.reading.specs.Reading.{Reads, walk_fault}
 
+-- What lies in records is small: the records have room for so many entries, whose bodies lie below the most positions; no rule has more than 12 parameters, and there are as many bodies as rules.
+pub record Small (records : List Record) (rules : ℕ) (sheet : Drafts.Sheet) : Type 0 where
+  pub room : rules ≤ 4 * length records
+  pub below : AllByRecursion (λ (e : Entry). e.body < 16384) (entries_in records rules)
+  pub heads : AllByRecursion (λ (r : Rule). length r.params ≤ 12) sheet.rules
+  pub bodies : length sheet.bodies ≡ length sheet.rules
+
 -- Records hold a sheet. So many rules stand there, in which the sites are numbered: each part of a tree lies below its node, no two parts share a node, and reading the tables gives the rules. Beside them stands what the sheet owes.
 pub record Holds (records : List Record) (sizes : Sizes) (sheet : Drafts.Sheet) : Type 0 where
   pub rules : sizes.rules ≡ length sheet.rules
@@ -26,6 +35,7 @@ pub record Holds (records : List Record) (sizes : Sizes) (sheet : Drafts.Sheet) 
   pub owed : sizes.owed ≡ length sheet.obligations
   pub owes : OwesAll records sheet.obligations
   pub few : length sheet.obligations ≤ 128
+  pub small : Small records sizes.rules sheet
 
 -- the rules that the text stands for are a sheet in this range, which the records hold
 pub record Stood (text : List ℕ) (low high : ℤ) (sizes : Sizes) (records : List Record) : Type 0 where

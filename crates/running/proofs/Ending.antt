@@ -1,13 +1,20 @@
 -- Runs one after another: how they end, what they count, and what touches nothing outside.
 use Rattle.std.proofs.Common.{◌≡◌, ◌+◌, ℤ, List, length, Ok, Err, Result, IsErrAnd, sym, ap, ◌∙◌, subst, arith}
+use Rattle.std.proofs.Props.{props}
 use Rattle.std.proofs.lemmas.List.{length-append}
 use Rattle.language.specs.declared.part.Part.{Part}
 use Rattle.language.specs.Running.{State, Ran, Run, quiet, ◌>>=◌, made_in}
 use Rattle.language.proofs.Laws.{bind_done, bind-stop, bind-wild, made-append}
 use Rattle.running.specs.declared.program.Stop.{Stop}
 use Rattle.running.specs.declared.runner.Runner.{Runner}
-use Rattle.running.specs.Evaluating.{Gives}
+use Rattle.running.specs.Evaluating.{Gives, Short}
 use Rattle.running.specs.Ending.{Ends, Tame, state_of, outcome_of}
+
+pub tame_prop : {A : Type 0} (m : Ran A) → IsProp (Tame m)
+tame_prop m = hlevel
+
+pub short_prop : (ps : List Part) → IsProp (Short ps)
+short_prop ps = hlevel props
 
 -- what a `?` passes on
 pub refused : {A : Type 0} → (r : Result A Stop) (e : Stop) → IsErrAnd r (λ x. x ≡ e) → r ≡ Err e

@@ -7,3 +7,4 @@ pub mod Spending
 pub mod Arguments
 pub mod Bodies
 pub mod Called
+pub mod Standing

@@ -42,7 +42,7 @@ impl Runner<'_, '_, '_> {
         values: &[i32],
         parts: &[Part],
     ) -> Result<i32, Stop>
-        requires runs { RuleRuns program rule values.now parts.now self.old.fuel self.old.cells.now }
+        requires runs { ∥ RuleRuns program rule values.now parts.now self.old.fuel self.old.cells.now ∥₁ }
         requires none { entries self.old.values.now ≡ [] }
         requires short { Short parts.now }
         requires room { length values.now + 24000 ≤ room self.old.values.now }
@@ -73,7 +73,7 @@ pub fn run_rule(
     cells: &mut [i32],
     space: &mut [i32],
 ) -> End
-    requires runs { RuleRuns program rule values.now parts.now fuel cells.old }
+    requires runs { ∥ RuleRuns program rule values.now parts.now fuel cells.old ∥₁ }
     requires short { Short parts.now }
     requires room { length values.now + 24000 ≤ length space.old }
     requires fuel { fuel ≤ most_fuel }

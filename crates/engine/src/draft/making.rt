@@ -1,4 +1,5 @@
-ghost use Rattle.std.specs.Prelude.{◌≤◌, length};
+ghost use Rattle.std.specs.Prelude.{◌≤◌, false, length, replicate};
+ghost use Rattle.engine.specs.Sheeted.{Sheeted};
 ghost use Rattle.engine.specs.Taking.{Tested, Fresh, Made};
 
 use super::Draft;
@@ -16,7 +17,8 @@ pub fn test(text: &[u8], low: i32, high: i32, records: &mut [Record]) -> Result<
 
 // A draft over records in a range, with nothing settled.
 fn fresh<'r>(records: &'r mut [Record], low: i32, high: i32, sizes: Sizes) -> Draft<'r>
-    requires { sizes.owed ≤ 128 }
+    requires few { sizes.owed ≤ 128 }
+    requires sheeted { ∥ Sheeted low high records.old sizes (replicate 128 false) ∥₁ }
     ensures { Fresh result records.old low high sizes }
 {
     let marks = [false; MOST_OBLIGATIONS];

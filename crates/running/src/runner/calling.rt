@@ -60,7 +60,7 @@ impl Runner<'_, '_, '_> {
         rule: usize,
         args: usize,
     ) -> Result<i32, Stop>
-        requires runs { NodeRuns frame left at self.old }
+        requires runs { ∥ NodeRuns frame left at self.old ∥₁ }
         requires node { slice_get (tables_in frame.program.records.now).nodes at ≡ Some (Call place rule args) }
         requires base { frame.base ≤ length (entries self.old.values.now) }
         requires short { Short frame.parts.now }
@@ -101,7 +101,7 @@ impl Runner<'_, '_, '_> {
         given: &mut Pile<'_, i32>,
         lent: &mut Pile<'_, Part>,
     ) -> Result<(), Stop>
-        requires runs { ArgsRun frame left at given.old lent.old self.old }
+        requires runs { ∥ ArgsRun frame left at given.old lent.old self.old ∥₁ }
         requires base { frame.base ≤ length (entries self.old.values.now) }
         requires short { Short frame.parts.now }
         requires room { length (entries self.old.values.now) + 12 * left ≤ room self.old.values.now }

@@ -39,7 +39,7 @@ impl Runner<'_, '_, '_> {
         left: u32,
         at: usize,
     ) -> Result<i32, Stop>
-        requires runs { Runs frame left at self.old }
+        requires runs { ∥ Runs frame left at self.old ∥₁ }
         requires base { frame.base ≤ length (entries self.old.values.now) }
         requires short { Short frame.parts.now }
         requires room { length (entries self.old.values.now) + 12 * left ≤ room self.old.values.now }
@@ -70,7 +70,7 @@ impl Runner<'_, '_, '_> {
         at: usize,
         node: Node,
     ) -> Result<i32, Stop>
-        requires runs { NodeRuns frame left at self.old }
+        requires runs { ∥ NodeRuns frame left at self.old ∥₁ }
         requires node { slice_get (tables_in frame.program.records.now).nodes at ≡ Some node }
         requires base { frame.base ≤ length (entries self.old.values.now) }
         requires short { Short frame.parts.now }

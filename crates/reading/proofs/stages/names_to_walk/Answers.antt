@@ -1,4 +1,4 @@
-use Rattle.std.proofs.Common.{◌≡◌, List, length, Some, Err, sym, refl, ap, ◌∙◌, subst, arith}
+use Rattle.std.proofs.Common.{◌≡◌, ◌≤◌, List, length, Some, Err, sym, refl, ap, ◌∙◌, subst, arith}
 use Rattle.std.proofs.lemmas.Result.{err_from_is_err_and}
 use Rattle.naming.specs.Sources.{rules_of}
 use Rattle.records.specs.declared.record.Record.{Record}
@@ -48,9 +48,10 @@ returns c =
     let w = c.args.sheet in let p = columns_of c.resolve.new.tables in let m = c.resolve.ensures.made in let rules = Resolving.sheet_of w.text.now (rules_of w) in
     let k = c.in_default-count_fault.ensures in let t = c.resolve.new.tables in let u = c.walk.new.tables in
     let well : WalkedWell rules t u = c.in_ok-walk.ensures.walked rules (ruled w p m (k.within refl)) in
+    let few = let l = light w c.requires.derived in let z : length p.nodes.entries ≤ 16384 = omega (arith, m.nodes) in z in
     let lent = sym (well.lender ∙ c.resolve.ensures.rooms.lender ∙ ap (λ (p : Columns). p.lender) c.over-tables.ensures.columns) in record {
       named = sym c.in_default.ensures;
       counted = sym (k.value ∙ flat-fault (length w.text.now) (rules_of w) rules p.nodes.entries p.conditions.entries m.exprs m.claims);
       faultless = well.faultless;
-      holds = λ low high. subst (λ (rs : List Record). Holds rs (record { rules = c.count.result; owed = c.owed.result }) (walked low high rules)) (sym (c.records-2-1.given.1.1 lent)) (holds t u rules _ low high well c.count.ensures c.owed.ensures);
+      holds = λ low high. subst (λ (rs : List Record). Holds rs (record { rules = c.count.result; owed = c.owed.result }) (walked low high rules)) (sym (c.records-2-1.given.1.1 lent)) (holds t u rules _ low high well (ruled w p m (k.within refl)) few c.count.ensures c.owed.ensures);
     }
