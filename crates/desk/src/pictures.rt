@@ -124,7 +124,8 @@ fn print_picture(rt: &HostRuntime, file: &str, text: &[u8], refusal: Refusal) ->
     print_line(rt, text, line, place)
 }
 
-// How a sheet was read, for people.
+// How a sheet was read, for people. Never inlined: a sentence about a text has room for its tokens, half a mebibyte of stack, which each answer of the desk would pay for.
+#[inline(never)]
 pub(crate) fn print_check(
     rt: &HostRuntime,
     file: &str,

@@ -84,9 +84,11 @@ impl Weighted<'_> {
         ensures { result ≡ total self.entry.question.facts.now self.entry.question.goal.now self.entry.certificate.now column }
     {
         let facts = self.question.facts;
+        // As many as there are facts, so that the loop tests for one end only; with two it takes twice the time.
+        let multipliers = &self.certificate[..facts.len()];
         // `sum` would have every run of its turns fit; std has the lemmas for that of numbers without a sign only.
         let mut sum = 0i64;
-        for (fact, m) in facts.iter().zip(self.certificate) {
+        for (fact, m) in facts.iter().zip(multipliers) {
             sum += times(*m, entry_of(fact, column));
         }
         let last = self.certificate[facts.len()];

@@ -32,7 +32,8 @@ impl Tokens<'_> {
         self.token(at).is(kind)
     }
 
-    // The item that begins at this token, whatever stands there.
+    // The item that begins at this token, whatever stands there. Inlined, since its callers use a part of what it gives.
+    #[inline(always)]
     pub fn item_at(self, at: usize) -> ItemRead
         ensures read { (m : Bool) → item_at (look_in self.entry.tokens.now self.entry.end) m at ≡ past (item_of m result) (at + result.size) }
         ensures few { result.size ≤ 3 }

@@ -21,6 +21,7 @@ impl<'t> Written<'t> {
     }
 
     // The item at a position, after a minus or not, and the position after it. Positions have a bound here, at `items`, `param`, `condition` and `rule_fault`, so that the position after what is read fits its type.
+    #[inline(always)]
     fn item(self, minus: bool, at: usize) -> (Signed, usize)
         requires { at ≤ 16390 }
         ensures read { item_at (look_of (source_of self.entry)) minus at ≡ past (raw_item result.0) result.1 }
@@ -77,6 +78,8 @@ impl Iterator for Items<'_> {
 
     ghost remaining = { item_count side_left };
 
+    // Inlined, and so is what reads the item: who goes over a side uses little of it, and to copy all of it takes longer than the rest.
+    #[inline(always)]
     fn next(&mut self) -> Option<Signed> {
         let at = self.next?;
         let (item, end) = self.sheet.item(self.minus, at);
