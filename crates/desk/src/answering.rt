@@ -115,9 +115,10 @@ fn ask(question: &ByHand, prover: ProverName) -> Result<Answer, Complaint> {
 // The widest range: what it is makes no difference to the stages that a check shows.
 fn check(rt: &HostRuntime, records: &mut [Record], file: String) -> Result<Answer, Complaint> {
     let text = read_front(rt, file.as_str())?;
-    let tested = test(text.as_slice(), i32::MIN, i32::MAX, records);
-    let draft = make(text.as_slice(), i32::MIN, i32::MAX, records);
-    let read = tested.map(|_| draft.rules());
+    let read = match test(text.as_slice(), i32::MIN, i32::MAX, records) {
+        Ok(()) => Ok(make(text.as_slice(), i32::MIN, i32::MAX, records).rules()),
+        Err(refusal) => Err(refusal),
+    };
     Ok(Answer::Check { file, text, read })
 }
 

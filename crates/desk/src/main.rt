@@ -14,7 +14,7 @@ mod sheets;
 use answering::{Desk, Then, answer_command, answer_over, answer_with, hear};
 use by_hand::ByHand;
 use engine::{Book, Draft, LEAST_RECORDS, Record, make, test};
-use sheets::{Sheet, print_book, print_taken};
+use sheets::{Sheet, print_book, print_refusal, print_taken};
 use std::io;
 use std::io::{BufRead, BufReader, Split, Stdin};
 
@@ -82,12 +82,12 @@ fn with_sheet(
     records: &mut [Record],
     sheet: Sheet,
 ) -> io::Result<Option<Sheet>> {
-    let tested = test(sheet.text.as_slice(), sheet.low, sheet.high, records);
-    let mut draft = make(sheet.text.as_slice(), sheet.low, sheet.high, records);
-    print_taken(rt, tested, &draft)?;
-    if tested.is_err() {
+    if let Err(refusal) = test(sheet.text.as_slice(), sheet.low, sheet.high, records) {
+        print_refusal(rt, refusal)?;
         return converse(rt, lines, desk);
     }
+    let mut draft = make(sheet.text.as_slice(), sheet.low, sheet.high, records);
+    print_taken(rt, &draft)?;
     match converse_over(rt, lines, desk, &mut draft)? {
         Then::Line => Ok(None),
         Then::Sheet(next) => Ok(Some(next)),

@@ -66,19 +66,10 @@ pub(crate) fn print_refusal(rt: &HostRuntime, refusal: Refusal) -> io::Result<()
 }
 
 // How a sheet was taken, in the form for scripts.
-pub(crate) fn print_taken(
-    rt: &HostRuntime,
-    tested: Result<(), Refusal>,
-    draft: &Draft<'_>,
-) -> io::Result<()> {
-    match tested {
-        Ok(()) => {
-            let rules = draft.rules();
-            let owed = draft.owed();
-            println!(rt; "read: {rules} rules, {owed} obligations")
-        }
-        Err(refusal) => print_refusal(rt, refusal),
-    }
+pub(crate) fn print_taken(rt: &HostRuntime, draft: &Draft<'_>) -> io::Result<()> {
+    let rules = draft.rules();
+    let owed = draft.owed();
+    println!(rt; "read: {rules} rules, {owed} obligations")
 }
 
 pub(crate) fn print_listing(rt: &HostRuntime, listing: &[Listed]) -> io::Result<()> {

@@ -1,7 +1,8 @@
 ghost use Rattle.std.specs.Prelude.{◌≡◌};
 ghost use Rattle.ints.specs.Tests.{within, all_within};
 
-// Whether x lies at most so far from 0.
+// Whether x lies at most so far from 0. Inlined, as the next is: of each caller the limit is known, and of most how many numbers there are.
+#[inline(always)]
 pub fn within(limit: i32, x: i64) -> bool
     ensures { result ≡ within limit x }
 {
@@ -9,6 +10,7 @@ pub fn within(limit: i32, x: i64) -> bool
 }
 
 // Whether each of them does.
+#[inline(always)]
 pub fn all_within(limit: i32, xs: &[i32]) -> bool
     ensures { result ≡ all_within limit xs.now }
 {
